@@ -1,0 +1,2 @@
+pub mod DecimalText
+pub mod FileText
