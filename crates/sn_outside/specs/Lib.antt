@@ -1,0 +1,5 @@
+pub mod Appended
+pub mod Contents
+pub mod Counts
+pub mod Memory
+pub mod Told

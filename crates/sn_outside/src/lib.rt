@@ -1,0 +1,27 @@
+//! What the program reaches beyond itself: files, a sink for its text, and a gate before each step.
+//!
+//! * `files`: the trait [`Files`], and the list of calls that one may tell
+//! * `sink`: the trait [`Sink`]
+//! * `gate`: the trait [`Gate`], and [`NoGate`]
+//! * `fault`: what these answer where they refuse
+//! * `mem_files`, `mem_sink`: both in memory, for tests: they tell what they hold, and fail at chosen calls
+//! * `real_files`, `std_out`: the thin adapters to the system
+#![tactic(auto)]
+
+mod fault;
+mod files;
+mod gate;
+mod mem_files;
+mod mem_sink;
+mod real_files;
+mod sink;
+mod std_out;
+
+pub use fault::{FileFault, SinkFault};
+pub use files::{CallKind, FileCall, Files};
+pub use gate::{Gate, NoGate};
+pub use mem_files::MemFiles;
+pub use mem_sink::MemSink;
+pub use real_files::RealFiles;
+pub use sink::Sink;
+pub use std_out::StdOut;
