@@ -8,3 +8,6 @@ mod file_name;
 pub use decimal_text::{decimal, push_decimal};
 pub use fault::NameFault;
 pub use file_name::FileName;
+
+#[cfg(test)]
+mod tests;
