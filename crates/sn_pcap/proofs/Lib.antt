@@ -1,0 +1,5 @@
+pub mod Headed
+pub mod Splitting
+pub mod Standing
+pub mod Stepping
+pub mod WrittenAgain

@@ -1,0 +1,9 @@
+use Rattle.std.proofs.Common.{length}
+use Rattle.sn_pcap.specs.Places.{payloads_at, IsPlace}
+use Rattle.sn_pcap.proofs.tests.walked.Given as goal
+
+abbrev pub invariant-loop-found : goal.invariant-loop-found
+invariant-loop-found l = IsPlace l.capture l.at
+
+abbrev pub decreases-loop-found : goal.decreases-loop-found
+decreases-loop-found l = length (payloads_at l.capture l.at)
