@@ -1,0 +1,153 @@
+-- What stands behind each answer of a run: the words, what the files held, and the count of their faults.
+use Rattle.std.specs.Prelude.{ℕ, true, ◌<◌, ◌≤◌, ◌≡◌, ◌⊎◌, List, [], ◌∷◌, ◌++◌, length, codes, Result, Ok, Err, Option, Some, None}
+use Rattle.std.specs.FinMap.{get, insert}
+use Rattle.sn_outside.specs.Contents.{Contents}
+use Rattle.sn_outside.specs.declared.fault.FileFault.{FileFault}
+use Rattle.sn_outside.specs.declared.fault.FileFault.TheVariants.{Failed, TooLong as Long}
+use Rattle.sn_outside.specs.declared.files.FileCall.{FileCall}
+use Rattle.sn_pcap.specs.Grammar.{PcapText}
+use Rattle.sn_run.specs.Copying.{Copying, IsScenario}
+use Rattle.sn_run.specs.Reported.{RunReport, WrittenFile, IsRun}
+use Rattle.sn_run.specs.Seen.{Seen, Made, Kept, Found, IsLonger, Rises, a_read, a_write}
+use Rattle.sn_run.specs.declared.status.Status.{Status}
+use Rattle.sn_run.specs.declared.status.Status.TheVariants.{Drained, RoundsUsed, BadWords, NotYet, ReadFault, TooLong, WriteFault, OutOfMemory}
+
+-- the words are `run FILE`, with a name of 1 to 4096 bytes
+pub record IsRunOf (words : List (List ℕ)) (file : List ℕ) : Type 0 where
+  pub words_are : words ≡ codes "run" ∷ file ∷ []
+  pub filled : 1 ≤ length file
+  pub short : length file ≤ 4096
+
+abbrev pub IsCommand : List (List ℕ) → Type 0
+IsCommand words = (file : List ℕ) × IsRunOf words file
+
+-- the most bytes of a scenario and of a capture
+abbrev pub most_scenario : ℕ
+most_scenario = 1048576
+
+abbrev pub most_capture : ℕ
+most_capture = 16777216
+
+-- Reading a file ended the run: the read was refused with this fault, after these calls.
+pub record EndsUnread (w : Seen) (prior : List FileCall) (name : List ℕ) (fault : FileFault) (answered : List ℕ) : Type 0 where
+  pub named : answered ≡ name
+  pub made : Made w (prior ++ a_read name (Err fault) ∷ [])
+
+-- The bytes of a file ended the run: they aren't of the form.
+pub record EndsRefused (w : Seen) (prior : List FileCall) (name : List ℕ) (limit : ℕ) (Refused : List ℕ → Type 0) (answered : List ℕ) : Type 0 where
+  pub named : answered ≡ name
+  pub bytes : List ℕ
+  pub found : Found w name limit bytes
+  pub refused : Refused bytes
+  pub made : Made w (prior ++ a_read name (Ok tt) ∷ [])
+
+-- nothing more was called, or this file was read
+abbrev pub IsOneRead : List ℕ → List FileCall → Type 0
+IsOneRead name [] = Unit {0}
+IsOneRead name (call ∷ []) = (answer : Result Unit FileFault) × (call ≡ a_read name answer)
+IsOneRead name (call ∷ next ∷ calls) = ⊥
+
+-- Want of memory ended the run, at this file at the latest.
+pub record EndsHungry (w : Seen) (prior : List FileCall) (name : List ℕ) : Type 0 where
+  pub calls : List FileCall
+  pub one : IsOneRead name calls
+  pub made : Made w (prior ++ calls)
+
+-- a file ended the run with this answer, by its read or by what it holds
+abbrev pub FileEnds : Seen → List FileCall → List ℕ → ℕ → (List ℕ → Type 0) → Status → Type 0
+FileEnds w prior name limit Refused (ReadFault answered) = EndsUnread w prior name Failed answered × Rises w
+FileEnds w prior name limit Refused (TooLong answered) = EndsUnread w prior name Long answered × IsLonger w name limit
+FileEnds w prior name limit Refused (NotYet answered) = EndsRefused w prior name limit Refused answered
+FileEnds w prior name limit Refused OutOfMemory = EndsHungry w prior name
+FileEnds w prior name limit Refused _ = ⊥
+
+-- the text is no scenario of the form; the bytes are no capture of the form
+abbrev pub NoScenario : List ℕ → Type 0
+NoScenario text = (c : Copying) → IsScenario text c → ⊥
+
+abbrev pub NoCapture : List ℕ → Type 0
+NoCapture bytes = (records : List (List ℕ)) → PcapText bytes records → ⊥
+
+-- the file held this scenario
+pub record HasScenario (w : Seen) (file : List ℕ) (c : Copying) : Type 0 where
+  pub text : List ℕ
+  pub found : Found w file most_scenario text
+  pub is : IsScenario text c
+
+-- the file held a capture of these records
+pub record HasCapture (w : Seen) (name : List ℕ) (records : List (List ℕ)) : Type 0 where
+  pub bytes : List ℕ
+  pub found : Found w name most_capture bytes
+  pub is : PcapText bytes records
+
+-- the calls of a run that reads both files
+abbrev pub both_reads : List ℕ → Copying → List FileCall
+both_reads file c = a_read file (Ok tt) ∷ a_read c.input (Ok tt) ∷ []
+
+-- the contents with these files written
+abbrev pub with_files : Contents → List WrittenFile → Contents
+with_files before [] = before
+with_files before (file ∷ files) = with_files (insert before file.name file.bytes) files
+
+-- all files were written, and so much was left
+pub record EndsWritten (w : Seen) (prior : List FileCall) (name : List ℕ) (report : RunReport) : Type 0 where
+  pub written : w.tells ≡ true → w.after ≡ with_files w.before report.files
+  pub made : Made w (prior ++ a_write name (Ok tt) ∷ [])
+
+-- the file was not written: it holds anything, and all others are as before
+pub record EndsUnwritten (w : Seen) (prior : List FileCall) (name answered : List ℕ) : Type 0 where
+  pub named : answered ≡ name
+  pub others : w.tells ≡ true → (other : List ℕ) → (other ≡ name → ⊥) → get w.after other ≡ get w.before other
+  pub made : Made w (prior ++ a_write name (Err Failed) ∷ [])
+
+-- a run of this report ended with this answer
+abbrev pub RunEnds : Seen → List FileCall → List ℕ → RunReport → Status → Type 0
+RunEnds w prior name report Drained = EndsWritten w prior name report × (report.left ≡ 0)
+RunEnds w prior name report (RoundsUsed left) = EndsWritten w prior name report × (left ≡ report.left) × (0 < left)
+RunEnds w prior name report (WriteFault answered) = EndsUnwritten w prior name answered × Rises w
+RunEnds w prior name report _ = ⊥
+
+-- the capture ended the run of a scenario
+pub record AfterScenario (w : Seen) (file : List ℕ) (status : Status) : Type 0 where
+  pub c : Copying
+  pub scenario : HasScenario w file c
+  pub capture : FileEnds w (a_read file (Ok tt) ∷ []) c.input most_capture NoCapture status
+
+-- a file ended the run before anything was written, and there is no report
+pub record Before (w : Seen) (file : List ℕ) (report : Option RunReport) (status : Status) : Type 0 where
+  pub none : report ≡ None
+  pub kept : Kept w
+  pub ends : FileEnds w [] file most_scenario NoScenario status ⊎ AfterScenario w file status
+
+-- the run was made whole, and there is its report
+pub record After (w : Seen) (file : List ℕ) (report : Option RunReport) (status : Status) : Type 0 where
+  pub c : Copying
+  pub records : List (List ℕ)
+  pub told : RunReport
+  pub is : report ≡ Some told
+  pub scenario : HasScenario w file c
+  pub capture : HasCapture w c.input records
+  pub run : IsRun c records told
+  pub ends : RunEnds w (both_reads file c) c.output told status
+
+-- what stands behind an answer of `run FILE`
+abbrev pub Cause : Seen → List ℕ → Option RunReport → Status → Type 0
+Cause w file report status = Before w file report status ⊎ After w file report status
+
+-- the words are no command, and nothing was called
+pub record NoCommand (w : Seen) (words : List (List ℕ)) (report : Option RunReport) (status : Status) : Type 0 where
+  pub none : IsCommand words → ⊥
+  pub is : status ≡ BadWords
+  pub no_report : report ≡ None
+  pub kept : Kept w
+  pub made : Made w []
+
+-- the words are a command, and this stands behind its answer
+pub record Commanded (w : Seen) (words : List (List ℕ)) (report : Option RunReport) (status : Status) : Type 0 where
+  pub file : List ℕ
+  pub command : IsRunOf words file
+  pub cause : Cause w file report status
+
+-- the whole course of a call: what its words, and what the files held and answered, make of it
+abbrev pub Course : Seen → List (List ℕ) → Option RunReport → Status → Type 0
+Course w words report status = NoCommand w words report status ⊎ Commanded w words report status

@@ -1,0 +1,81 @@
+-- What files that tell what they hold, and don't fail, make of the words: the answer that they lead to, but for want of memory.
+use Rattle.std.specs.Prelude.{ℕ, ◌-◌, ◌<◌, ◌≤◌, ◌≡◌, ◌⊎◌, List, length, Some, IsSomeAnd}
+use Rattle.std.specs.FinMap.{get}
+use Rattle.sn_outside.specs.Contents.{Contents}
+use Rattle.sn_pcap.specs.Grammar.{PcapText}
+use Rattle.sn_run.specs.Causes.{IsRunOf, IsCommand, NoScenario, NoCapture, most_scenario, most_capture}
+use Rattle.sn_run.specs.Copying.{Copying, IsScenario}
+use Rattle.sn_run.specs.Reported.{most_read}
+use Rattle.sn_run.specs.declared.status.Status.{Status}
+use Rattle.sn_run.specs.declared.status.Status.TheVariants.{Drained, RoundsUsed, BadWords, NotYet, ReadFault, TooLong, WriteFault, OutOfMemory}
+
+-- the file holds these bytes, at most so many
+pub record Holds (m : Contents) (name : List ℕ) (limit : ℕ) (bytes : List ℕ) : Type 0 where
+  pub held : get m name ≡ Some bytes
+  pub short : length bytes ≤ limit
+
+-- the file holds more bytes
+pub record IsOver (m : Contents) (name : List ℕ) (limit : ℕ) : Type 0 where
+  pub over : IsSomeAnd (get m name) (λ bytes. limit < length bytes)
+
+-- the words run this file, which is too long
+pub record ScenarioOver (m : Contents) (words : List (List ℕ)) (name : List ℕ) : Type 0 where
+  pub command : IsRunOf words name
+  pub over : IsOver m name most_scenario
+
+-- the words run this file, which holds no scenario
+pub record ScenarioRefused (m : Contents) (words : List (List ℕ)) (name : List ℕ) : Type 0 where
+  pub command : IsRunOf words name
+  pub text : List ℕ
+  pub holds : Holds m name most_scenario text
+  pub refused : NoScenario text
+
+-- the words run a file that holds this scenario
+pub record ScenarioHeld (m : Contents) (words : List (List ℕ)) (c : Copying) : Type 0 where
+  pub file : List ℕ
+  pub command : IsRunOf words file
+  pub text : List ℕ
+  pub holds : Holds m file most_scenario text
+  pub is : IsScenario text c
+
+-- the scenario's capture is too long
+pub record CaptureOver (m : Contents) (words : List (List ℕ)) (name : List ℕ) : Type 0 where
+  pub c : Copying
+  pub scenario : ScenarioHeld m words c
+  pub named : name ≡ c.input
+  pub over : IsOver m c.input most_capture
+
+-- the scenario's capture is none
+pub record CaptureRefused (m : Contents) (words : List (List ℕ)) (name : List ℕ) : Type 0 where
+  pub c : Copying
+  pub scenario : ScenarioHeld m words c
+  pub named : name ≡ c.input
+  pub bytes : List ℕ
+  pub holds : Holds m c.input most_capture bytes
+  pub refused : NoCapture bytes
+
+-- scenario and capture are there, and the run leaves so many records
+pub record RunHeld (m : Contents) (words : List (List ℕ)) (left : ℕ) : Type 0 where
+  pub c : Copying
+  pub scenario : ScenarioHeld m words c
+  pub bytes : List ℕ
+  pub records : List (List ℕ)
+  pub holds : Holds m c.input most_capture bytes
+  pub is : PcapText bytes records
+  pub left_is : left ≡ length records - most_read c
+
+-- the answer that the words and the contents lead to
+abbrev pub Expected : Contents → List (List ℕ) → Status → Type 0
+Expected m words BadWords = IsCommand words → ⊥
+Expected m words (TooLong name) = ScenarioOver m words name ⊎ CaptureOver m words name
+Expected m words (NotYet name) = ScenarioRefused m words name ⊎ CaptureRefused m words name
+Expected m words Drained = RunHeld m words 0
+Expected m words (RoundsUsed left) = RunHeld m words left × (0 < left)
+Expected m words _ = ⊥
+
+-- Each answer that is no fault is the one that words and contents lead to; the top call never answers a print fault by itself.
+abbrev pub Caused : Contents → List (List ℕ) → Status → Type 0
+Caused m words (ReadFault name) = Unit {0}
+Caused m words (WriteFault name) = Unit {0}
+Caused m words OutOfMemory = Unit {0}
+Caused m words status = Expected m words status

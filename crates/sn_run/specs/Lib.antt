@@ -1,0 +1,11 @@
+pub mod Answers
+pub mod Causes
+pub mod Copying
+pub mod Exit
+pub mod Expected
+pub mod Lines
+pub mod Printed
+pub mod Reported
+pub mod Seen
+pub mod Steps
+pub mod Texts

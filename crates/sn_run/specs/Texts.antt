@@ -1,0 +1,21 @@
+-- The text that is printed for each answer. Every line ends with a line feed.
+use Rattle.std.specs.Prelude.{ℕ, List, [], ◌∷◌, ◌++◌, codes}
+use Rattle.std.specs.Fmt.{decimal}
+use Rattle.sn_run.specs.declared.status.Status.{Status}
+use Rattle.sn_run.specs.declared.status.Status.TheVariants.{Drained, RoundsUsed, BadWords, NotYet, ReadFault, TooLong, WriteFault, PrintFault, OutOfMemory}
+
+-- words, what they speak of, and the line's end
+abbrev pub text_line : List ℕ → List ℕ → List ℕ
+text_line words of = words ++ (of ++ 10 ∷ [])
+
+-- a run that ended prints the first line of its report; want of memory prints nothing
+abbrev pub text_of : Status → List ℕ
+text_of Drained = text_line (codes "status drained") []
+text_of (RoundsUsed left) = text_line (codes "status rounds-used ") (decimal left)
+text_of BadWords = text_line (codes "usage: snabbrt run FILE, check FILE, actions FILE WORKER, load N") []
+text_of (NotYet name) = text_line (codes "not yet ") name
+text_of (ReadFault name) = text_line (codes "cannot read ") name
+text_of (TooLong name) = text_line (codes "too long ") name
+text_of (WriteFault name) = text_line (codes "cannot write ") name
+text_of PrintFault = []
+text_of OutOfMemory = []

@@ -1,0 +1,56 @@
+//! How the top call ends.
+ghost use Rattle.sn_run.specs.Exit.{exit_number};
+ghost use Rattle.std.specs.Prelude.{◌≡◌};
+
+use crate::Report;
+use sn_names::FileName;
+
+/// What became of the command.
+#[derive(Debug, Drop)]
+pub enum Status {
+    /// Nothing was left to do.
+    Drained,
+    /// The rounds were used up, and so much was left.
+    RoundsUsed(u64),
+    /// The words are no command.
+    BadWords,
+    /// The scenario or the capture isn't of the one form that runs so far.
+    NotYet(FileName),
+    /// The file was not read: the count of faults rose.
+    ReadFault(FileName),
+    /// The file has more bytes than are read of its kind.
+    TooLong(FileName),
+    /// The file was not written: the count of faults rose.
+    WriteFault(FileName),
+    /// The text was not printed: the sink's count of faults rose.
+    PrintFault,
+    /// There was no memory.
+    OutOfMemory,
+}
+
+impl Status {
+    /// The exit status of the program: 0 where all was done, 1 for words, 2 for files and printing,
+    /// 3 for what a file holds, 4 where something was left, 5 for want of memory.
+    pub fn number(&self) -> u8
+        ensures { result ≡ exit_number self.now }
+    {
+        match self {
+            Status::Drained => 0,
+            Status::BadWords => 1,
+            Status::ReadFault(_) | Status::TooLong(_) => 2,
+            Status::WriteFault(_) | Status::PrintFault => 2,
+            Status::NotYet(_) => 3,
+            Status::RoundsUsed(_) => 4,
+            Status::OutOfMemory => 5,
+        }
+    }
+}
+
+/// How the top call ended: its status, the answer that a print fault replaced, and what a run
+/// reports.
+#[derive(Debug, Drop)]
+pub struct Ended {
+    pub status: Status,
+    pub replaced: Option<Status>,
+    pub report: Option<Report>,
+}

@@ -1,0 +1,51 @@
+//! The texts of answers.
+ghost use Rattle.sn_run.specs.Texts.{text_line, text_of};
+ghost use Rattle.std.specs.Fmt.{decimal};
+ghost use Rattle.std.specs.Prelude.{List, [], ◌∷◌, ◌++◌, IfOk, ◌≡◌};
+
+use crate::Status;
+use sn_names::push_decimal;
+use std::alloc::{AllocError, Global};
+
+/// What is printed where the words are no command.
+pub(crate) const USAGE: &[u8] =
+    b"usage: snabbrt run FILE, check FILE, actions FILE WORKER, load N\n";
+
+/// A line of words and what they speak of.
+fn line_of(alloc: Global, words: &[u8], of: &[u8]) -> Result<Vec<u8>, AllocError>
+    ensures { IfOk result (λ text. text.items ≡ text_line words.now of.now) }
+{
+    let mut text = Vec::from_slice(alloc, words)?;
+    text.extend_from_slice(of)?;
+    text.push(b'\n')?;
+    Ok(text)
+}
+
+/// A line of words and a number.
+fn number_of(alloc: Global, words: &[u8], n: u64) -> Result<Vec<u8>, AllocError>
+    ensures { IfOk result (λ text. text.items ≡ text_line words.now (decimal n)) }
+{
+    let mut text = Vec::from_slice(alloc, words)?;
+    push_decimal(&mut text, n)?;
+    text.push(b'\n')?;
+    Ok(text)
+}
+
+/// The text of an answer.
+///
+/// # Errors
+/// Want of memory.
+pub(crate) fn status_text(alloc: Global, status: &Status) -> Result<Vec<u8>, AllocError>
+    ensures { IfOk result (λ text. text.items ≡ text_of status.now) }
+{
+    match status {
+        Status::Drained => line_of(alloc, b"status drained", b""),
+        Status::RoundsUsed(left) => number_of(alloc, b"status rounds-used ", *left),
+        Status::BadWords => Vec::from_slice(alloc, USAGE),
+        Status::NotYet(name) => line_of(alloc, b"not yet ", name.as_str().as_bytes()),
+        Status::ReadFault(name) => line_of(alloc, b"cannot read ", name.as_str().as_bytes()),
+        Status::TooLong(name) => line_of(alloc, b"too long ", name.as_str().as_bytes()),
+        Status::WriteFault(name) => line_of(alloc, b"cannot write ", name.as_str().as_bytes()),
+        Status::PrintFault | Status::OutOfMemory => Ok(Vec::new(alloc)),
+    }
+}

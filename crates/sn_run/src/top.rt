@@ -1,0 +1,143 @@
+//! The top call: from the words of a command to its text.
+ghost use Rattle.sn_outside.specs.Counts.{Rose};
+ghost use Rattle.sn_run.specs.Answers.{answer_of, Headline, Reports, FaultRose};
+ghost use Rattle.sn_run.specs.Causes.{Course, Cause, IsCommand};
+ghost use Rattle.sn_run.specs.Expected.{Expected, Caused};
+ghost use Rattle.sn_run.specs.Printed.{TookAll, TookFront};
+ghost use Rattle.sn_run.specs.Seen.{seen, Rises};
+ghost use Rattle.sn_run.specs.Steps.{IsOrHungry};
+ghost use Rattle.sn_run.specs.Texts.{text_of};
+ghost use Rattle.sn_run.specs.declared.status.Status.{Status};
+ghost use Rattle.std.specs.Prelude.{ℕ, List, true, Some, None, IfOk, IfSome, IsSome, map, string_bytes, length, ◌≡◌, ◌≢◌, ◌↔◌, ◌≤◌};
+
+use crate::command::command_of;
+use crate::printing::print_text;
+use crate::run::run_file;
+use crate::texts::USAGE;
+use crate::writing::{Answer, hungry};
+use crate::{Ended, Report, Status};
+use sn_names::{FileName, NameFault};
+use sn_outside::{Files, Gate, Sink};
+use sn_pcap::one_reading;
+use std::alloc::{AllocError, Global};
+use std::thread::Threads;
+
+/// Prints an answer's text, and ends with the answer, or with the fault of printing it.
+pub(crate) fn finish<O: Sink>(
+    status: Status,
+    report: Option<Report>,
+    text: &[u8],
+    out: &mut O,
+) -> Ended
+    requires answer { status ≢ Status.PrintFault }
+    requires spelled { text.now ≡ text_of status }
+    ensures answer { answer_of result ≡ status }
+    ensures report { result.report ≡ report }
+    ensures replaced { IsSome result.replaced ↔ (result.status ≡ Status.PrintFault) }
+    ensures text { result.status ≢ Status.PrintFault → TookAll O.tells (O.taken out.old) (O.taken out.new) (text_of status) }
+    ensures front { result.status ≡ Status.PrintFault → TookFront O.tells (O.taken out.old) (O.taken out.new) (text_of status) }
+    ensures print_fault { result.status ≡ Status.PrintFault → Rose (O.faults out.old) (O.faults out.new) }
+{
+    match print_text(out, text) {
+        Ok(()) => Ended {
+            status,
+            replaced: None,
+            report,
+        },
+        Err(_) => Ended {
+            status: Status::PrintFault,
+            replaced: Some(status),
+            report,
+        },
+    }
+}
+
+/// The name of a command's file.
+fn file_name(alloc: Global, file: &str) -> Result<FileName, AllocError>
+    requires filled { 1 ≤ length file.now }
+    requires short { length file.now ≤ 4096 }
+    ensures { IfOk result (λ name. name ≡ file.now) }
+{
+    match FileName::of(alloc, file.as_bytes()) {
+        Ok(name) => Ok(name),
+        Err(NameFault::OutOfMemory) => Err(AllocError),
+        Err(NameFault::At(_)) => unreachable!(),
+    }
+}
+
+/// Runs the file of a command.
+fn run_command<F: Files>(alloc: Global, file: &str, files: &mut F) -> Answer
+    requires filled { 1 ≤ length file.now }
+    requires short { length file.now ≤ 4096 }
+    ensures cause { Cause (seen F.tells (F.contents files.old) (F.contents files.new) (F.calls files.old) (F.calls files.new) (F.faults files.old) (F.faults files.new)) file.now result.report result.status }
+    ensures text { result.text.items ≡ text_of result.status }
+{
+    let Ok(name) = file_name(alloc, file) else {
+        return hungry(alloc);
+    };
+    run_file(alloc, name, files)
+}
+
+/// Answers the words of a command, and prints the answer.
+fn answer_words<F: Files, O: Sink>(
+    alloc: Global,
+    words: &[String],
+    files: &mut F,
+    out: &mut O,
+) -> Ended
+    ensures course { Course (seen F.tells (F.contents files.old) (F.contents files.new) (F.calls files.old) (F.calls files.new) (F.faults files.old) (F.faults files.new)) (map string_bytes words.now) result.report (answer_of result) }
+    ensures replaced { IsSome result.replaced ↔ (result.status ≡ Status.PrintFault) }
+    ensures text { result.status ≢ Status.PrintFault → TookAll O.tells (O.taken out.old) (O.taken out.new) (text_of (answer_of result)) }
+    ensures front { result.status ≡ Status.PrintFault → TookFront O.tells (O.taken out.old) (O.taken out.new) (text_of (answer_of result)) }
+    ensures print_fault { result.status ≡ Status.PrintFault → Rose (O.faults out.old) (O.faults out.new) }
+{
+    let Some(file) = command_of(words) else {
+        return finish(Status::BadWords, None, USAGE, out);
+    };
+    let answer = run_command(alloc, file, files);
+    let Answer {
+        status,
+        report,
+        text,
+    } = answer;
+    finish(status, report, &text, out)
+}
+
+/// Runs a command: `run FILE` runs the scenario that the file holds.
+///
+/// The scenario is read first, then its capture; then the file is written, and last the text is
+/// printed. The words are those after the program's name. No memory is taken once the file is
+/// written. No thread is started, and the gate isn't called.
+pub fn snabb_main<R: Threads + Sync, F: Files, O: Sink, G: Gate>(
+    rt: &R,
+    alloc: Global,
+    words: &[String],
+    files: &mut F,
+    out: &mut O,
+    gate: &G,
+) -> Ended
+    // What the words, the files' contents and their answers make of the call, as a whole.
+    ensures course { Course (seen F.tells (F.contents files.old) (F.contents files.new) (F.calls files.old) (F.calls files.new) (F.faults files.old) (F.faults files.new)) (map string_bytes words.now) result.report (answer_of result) }
+
+    // A report is that of a run of the scenario and the capture that were read, and comes just with these answers.
+    ensures headline { IfSome result.report (Headline (seen F.tells (F.contents files.old) (F.contents files.new) (F.calls files.old) (F.calls files.new) (F.faults files.old) (F.faults files.new)) (map string_bytes words.now)) }
+    ensures reports { Reports (seen F.tells (F.contents files.old) (F.contents files.new) (F.calls files.old) (F.calls files.new) (F.faults files.old) (F.faults files.new)) result.report (answer_of result) }
+
+    // When each answer comes.
+    ensures bad_words { (answer_of result ≡ Status.BadWords) ↔ (IsCommand (map string_bytes words.now) → ⊥) }
+    ensures caused { F.tells ≡ true → Caused (F.contents files.old) (map string_bytes words.now) (answer_of result) }
+    ensures expected { (status : Status) → F.tells ≡ true → Expected (F.contents files.old) (map string_bytes words.now) status → (Rises (seen F.tells (F.contents files.old) (F.contents files.new) (F.calls files.old) (F.calls files.new) (F.faults files.old) (F.faults files.new)) → ⊥) → IsOrHungry status (answer_of result) }
+    ensures faults { FaultRose (seen F.tells (F.contents files.old) (F.contents files.new) (F.calls files.old) (F.calls files.new) (F.faults files.old) (F.faults files.new)) (answer_of result) }
+
+    // What the sink took.
+    ensures replaced { IsSome result.replaced ↔ (result.status ≡ Status.PrintFault) }
+    ensures never_replaced { result.replaced ≢ Some Status.PrintFault }
+    ensures text { result.status ≢ Status.PrintFault → TookAll O.tells (O.taken out.old) (O.taken out.new) (text_of (answer_of result)) }
+    ensures front { result.status ≡ Status.PrintFault → TookFront O.tells (O.taken out.old) (O.taken out.new) (text_of (answer_of result)) }
+    ensures print_fault { result.status ≡ Status.PrintFault → Rose (O.faults out.old) (O.faults out.new) }
+{
+    let _ = rt;
+    let _ = gate;
+    one_reading();
+    answer_words(alloc, words, files, out)
+}
