@@ -17,3 +17,6 @@ mod writing;
 pub use report::{OutFile, Report};
 pub use status::{Ended, Status};
 pub use top::snabb_main;
+
+#[cfg(test)]
+mod tests;
