@@ -4,7 +4,7 @@ use Rattle.std.specs.Prelude.{slice_get}
 use Rattle.sn_core.specs.declared.events.Side.TheVariants.{Tx, Rx}
 use Rattle.sn_core.specs.declared.events.Event.{Event}
 use Rattle.sn_core.specs.declared.events.Event.TheVariants.{Attach, Take, Release, Lay, Publish, TakeClaim, TakeOut, TakeDone}
-use Rattle.sn_core.specs.Core.{Core, opened, run, done_count, after, standing}
+use Rattle.sn_core.specs.Core.{Core, opened, all_after, done_count, after, standing}
 
 abbrev events : List Event
 events =
@@ -14,8 +14,8 @@ events =
 all_done : done_count (opened 2 2 ((0, 1) ∷ [])) events ≡ 9
 all_done = refl
 
-once_only : after (run (opened 2 2 ((0, 1) ∷ [])) events) (Release 0) ≡ None
+once_only : after (all_after (opened 2 2 ((0, 1) ∷ [])) events) (Release 0) ≡ None
 once_only = refl
 
-where_all_stands : standing (run (opened 2 2 ((0, 1) ∷ [])) events) ≡ record { number = 1; turn = 0 } ∷ record { number = 0; turn = 1 } ∷ []
+where_all_stands : standing (all_after (opened 2 2 ((0, 1) ∷ [])) events) ≡ record { number = 1; turn = 0 } ∷ record { number = 0; turn = 1 } ∷ []
 where_all_stands = refl

@@ -5,10 +5,10 @@ use Rattle.sn_core.specs.declared.parts.Packet.{Packet}
 use Rattle.sn_core.specs.declared.parts.Cell.{Cell}
 use Rattle.sn_core.specs.declared.parts.Cell.TheVariants.{Full}
 use Rattle.sn_core.specs.Lane.{LaneState, first_packet, taken}
-use Rattle.sn_core.specs.Seat.{SeatState, turn_of, letting_go}
+use Rattle.sn_core.specs.Seat.{SeatState, turn_of, letting_go, idle_seat}
 use Rattle.sn_core.specs.Core.{Core, pool, standing}
 use Rattle.sn_core.specs.Sound.{StandsOnce, count_of}
-use Rattle.sn_core.proofs.Weights.{weigh, weigh_of, weigh_is, cell_weight, lane_weight, seat_weight, at-le-sum_by, cell_weight-full, lane_weight-taken, seat_weight-letting_go}
+use Rattle.sn_core.proofs.Weights.{weigh, weigh_of, weigh_is, cell_weight, lane_weight, seat_weight, at-le-sum_by, cell_weight-full, lane_weight-taken, seat_weight-letting_go, idle_seat_weight}
 
 -- 1 for a packet of this number, and 0 for others
 abbrev pub is_one : ℕ → Packet → ℕ
@@ -86,3 +86,7 @@ not_held_in_lane core stands i s lane packet seat at first there =
         at-le-sum_by (seat_weight (is_one packet.number)) core.seats s seat there,
         seat_weight-held packet.number turn seat held
       ))
+
+-- a seat that holds nothing weighs nothing
+pub idle_weight : (n : ℕ) → seat_weight (is_one n) (idle_seat 0) ≡ 0
+idle_weight n = idle_seat_weight (is_one n)

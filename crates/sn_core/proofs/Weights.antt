@@ -8,7 +8,7 @@ use Rattle.sn_core.specs.declared.parts.Packet.{Packet}
 use Rattle.sn_core.specs.declared.parts.Cell.{Cell}
 use Rattle.sn_core.specs.declared.parts.Cell.TheVariants.{Empty, Busy, Full}
 use Rattle.sn_core.specs.Lane.{LaneState, first_packet, with_first_emptied, is_unreleased, taken, published, released}
-use Rattle.sn_core.specs.Seat.{SeatState, packets_from, held_packets, turn_of, joined, holding, letting_go}
+use Rattle.sn_core.specs.Seat.{SeatState, packets_from, held_packets, turn_of, joined, holding, letting_go, idle_seat}
 use Rattle.sn_core.specs.Core.{Core, standing, cell_packets, place_packets, queued_packets, with_lane, with_seat, with_cell}
 
 pub sum_by-flat_map : {X Y : Type 0} (f : Y → ℕ) (g : X → List Y) (xs : List X) → sum_by f (flat_map g xs) ≡ sum_by (λ x. sum_by f (g x)) xs
@@ -154,3 +154,15 @@ cell_weight-empty f = refl
 pub cell_weight-busy : (f : Packet → ℕ) (s : ℕ) → cell_weight f (Busy s) ≡ 0
 unfolding cell_weight
 cell_weight-busy f s = refl
+
+pub idle_seat_weight : (f : Packet → ℕ) → seat_weight f (idle_seat 0) ≡ 0
+unfolding seat_weight
+idle_seat_weight f = refl
+
+pub same_lane_weight : (f : Packet → ℕ) (lane new : LaneState) → new.queue ≡ lane.queue → lane_weight f new ≡ lane_weight f lane
+unfolding lane_weight
+same_lane_weight f lane new same = ap (λ queue. sum_by f (flat_map place_packets queue)) same
+
+pub same_seat_weight : (f : Packet → ℕ) (seat new : SeatState) → new.held ≡ seat.held → seat_weight f new ≡ seat_weight f seat
+unfolding seat_weight
+same_seat_weight f seat new same = ap (λ held. sum_by f (packets_from 0 held)) same

@@ -226,9 +226,9 @@ IsStep old event NotEnabled new = (after old event ≡ None) × (new ≡ old)
 abbrev pub next : Core → Event → Core
 next core event = unwrap_or (after core event) core
 
-abbrev pub run : Core → List Event → Core
-run core [] = core
-run core (event ∷ events) = run (next core event) events
+abbrev pub all_after : Core → List Event → Core
+all_after core [] = core
+all_after core (event ∷ events) = all_after (next core event) events
 
 -- how many of them were done
 abbrev pub done_count : Core → List Event → ℕ

@@ -16,6 +16,9 @@ mod machine;
 mod lane_events;
 mod seat_events;
 mod cell_events;
+mod steps;
+mod state;
 
 pub use events::{Event, Owner, Side, Stepped};
+pub use state::CoreState;
 pub use parts::{Cell, Field, Packet, Phase, Transfer, MAX_TURN};
