@@ -39,10 +39,10 @@ moves old new size weight puts =
     }
 
 -- 1 for a packet whose turn is too high
-abbrev too_high : Packet → ℕ
+abbrev pub too_high : Packet → ℕ
 too_high packet = cond (ltb MAX_TURN packet.turn) 1 0
 
-not_too_high : (packet : Packet) → packet.turn ≤ MAX_TURN → too_high packet ≡ 0
+pub not_too_high : (packet : Packet) → packet.turn ≤ MAX_TURN → too_high packet ≡ 0
 not_too_high packet le = ap (λ b. cond b 1 0) (le-ltb MAX_TURN packet.turn le)
 
 bounded : (packet : Packet) → too_high packet ≡ 0 → packet.turn ≤ MAX_TURN
@@ -52,7 +52,7 @@ bounded packet zero_is =
     | inr ge ↦ ge
     ]
 
-abbrev IsBounded : Packet → Type 0
+abbrev pub IsBounded : Packet → Type 0
 IsBounded packet = packet.turn ≤ MAX_TURN
 
 none_too_high : (xs : List Packet) → All IsBounded xs → sum_by too_high xs ≡ 0
@@ -60,7 +60,7 @@ none_too_high [] all = refl
 none_too_high (x ∷ xs) all =
     omega (arith, sum_by-cons too_high x xs, not_too_high x (All-head IsBounded x xs all), none_too_high xs (All-tail IsBounded x xs all))
 
-all_bounded : (xs : List Packet) → sum_by too_high xs ≡ 0 → All IsBounded xs
+pub all_bounded : (xs : List Packet) → sum_by too_high xs ≡ 0 → All IsBounded xs
 all_bounded [] e = All-nil IsBounded
 all_bounded (x ∷ xs) e =
     let here : too_high x ≡ 0 = omega (arith, sum_by-cons too_high x xs) in

@@ -13,3 +13,4 @@ pub mod KeepsLanes
 pub mod KeepsCells
 pub mod KeepsAll
 pub mod Runs
+pub mod Opened

@@ -1,5 +1,5 @@
 -- The packets that stand in the core, weighed: the weight of all is that of the cells, the lanes and the seats.
-use Rattle.std.proofs.Common.{◌≡◌, ℕ, ◌+◌, ◌-◌, ◌<◌, ◌≤◌, Bool, true, false, Option, List, [], ◌∷◌, ◌++◌, length, Some, None, refl, sym, ap, ◌∙◌, subst, arith, slice_get, slice_set, map, zero, suc, add-zero, zero-add, drop, get_or}
+use Rattle.std.proofs.Common.{◌≡◌, ℕ, ◌+◌, ◌-◌, ◌<◌, ◌≤◌, Bool, true, false, Option, List, [], ◌∷◌, ◌++◌, length, Some, None, refl, sym, ap, ◌∙◌, subst, arith, slice_get, slice_set, map, zero, suc, add-zero, zero-add, drop, get_or, replicate}
 use Rattle.std.specs.List.{flat_map, sum_by, All, count_by}
 use Rattle.std.proofs.lemmas.List.Sums.{sum_by-cons, sum_by-append, sum_by-set, get_or-le-sum_by}
 use Rattle.std.proofs.lemmas.Option.{slice_get_within, get_or_from_slice_get, slice_get-get_or}
@@ -7,7 +7,7 @@ use Rattle.std.proofs.lemmas.List.Concat.{flat_map-append}
 use Rattle.sn_core.specs.declared.parts.Packet.{Packet}
 use Rattle.sn_core.specs.declared.parts.Cell.{Cell}
 use Rattle.sn_core.specs.declared.parts.Cell.TheVariants.{Empty, Busy, Full}
-use Rattle.sn_core.specs.Lane.{LaneState, first_packet, with_first_emptied, is_unreleased, taken, published, released}
+use Rattle.sn_core.specs.Lane.{LaneState, first_packet, with_first_emptied, is_unreleased, taken, published, released, free_lane}
 use Rattle.sn_core.specs.Seat.{SeatState, packets_from, held_packets, turn_of, joined, holding, letting_go, idle_seat}
 use Rattle.sn_core.specs.Core.{Core, standing, cell_packets, place_packets, queued_packets, with_lane, with_seat, with_cell}
 
@@ -166,3 +166,14 @@ same_lane_weight f lane new same = ap (λ queue. sum_by f (flat_map place_packet
 pub same_seat_weight : (f : Packet → ℕ) (seat new : SeatState) → new.held ≡ seat.held → seat_weight f new ≡ seat_weight f seat
 unfolding seat_weight
 same_seat_weight f seat new same = ap (λ held. sum_by f (packets_from 0 held)) same
+
+pub free_lane_weight : (f : Packet → ℕ) (a b : ℕ) → lane_weight f (free_lane a b) ≡ 0
+unfolding lane_weight
+free_lane_weight f a b = refl
+
+pub idle_pool_weight : (f : Packet → ℕ) (pool : ℕ) → seat_weight f (idle_seat pool) ≡ 0
+unfolding seat_weight
+idle_pool_weight f pool = go 0 pool where
+  go : (first count : ℕ) → sum_by f (packets_from first (replicate count None)) ≡ 0
+  go first zero = refl
+  go first (suc count) = go (suc first) count

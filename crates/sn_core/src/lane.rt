@@ -1,7 +1,7 @@
 // One lane between two seats: its ends, its queue, and what is laid.
 ghost use Rattle.std.specs.Prelude.{◌≡◌, ◌-◌, ◌+◌, ◌<◌, ◌≤◌, ◌^◌, length, IfOk, IsTrue, Some, None, [], ◌∷◌};
 ghost use Rattle.sn_core.specs.Lane.{LaneState, free_lane, seat_of, first_packet, is_unreleased, can_attach, attached, can_detach, detached, can_reset, was_reset, can_take, taken, can_release, released, can_drain, can_drain_release, can_lay, with_laid, published, is_side, with_field, is_down, is_up, is_half_done, field_of};
-ghost use Rattle.sn_core.specs.Core.{lays, has_end, is_in_use};
+ghost use Rattle.sn_core.specs.Core.{lays, has_end, is_in_use, lane_has, place_has};
 
 use crate::events::Side;
 use crate::parts::{Field, Packet};
@@ -173,6 +173,13 @@ impl Lane {
         }
     }
 
+    /// Whether the packet of this number stands in the queue.
+    pub fn has(&self, number: u32) -> bool
+        ensures { result ≡ lane_has number self.now }
+    {
+        self.queue.iter().any(|place| place_has(place, number))
+    }
+
     pub fn can_take(&self) -> bool
         ensures { result ≡ can_take self.now }
     {
@@ -263,5 +270,15 @@ impl Lane {
         ensures { result ≡ has_end seat side self.now }
     {
         self.seat(side) == seat && (self.field(side) == Field::Up || self.is_closed_by(side))
+    }
+}
+
+/// Whether the place has the packet of this number.
+fn place_has(place: &Option<Packet>, number: u32) -> bool
+    ensures { result ≡ place_has number place.now }
+{
+    match place {
+        Some(packet) => packet.number == number,
+        None => false,
     }
 }

@@ -17,6 +17,7 @@ mod lane_events;
 mod seat_events;
 mod cell_events;
 mod steps;
+mod owners;
 mod state;
 
 pub use events::{Event, Owner, Side, Stepped};

@@ -1,10 +1,10 @@
 // Cells, lanes and seats together, and what the events share.
-ghost use Rattle.std.specs.Prelude.{◌≡◌, ◌<◌, ◌≤◌, length, IfOk, IsTrue, is_some, Some, None, slice_get, Bool, true};
-ghost use Rattle.sn_core.specs.Core.{Core, opened, may_go, lays, take_first};
-ghost use Rattle.sn_core.specs.Seat.{SeatState, is_fresh, turn_of};
+ghost use Rattle.std.specs.Prelude.{◌≡◌, ◌<◌, ◌≤◌, length, IfOk, IsTrue, is_some, Some, None, slice_get, Bool, true, map, replicate};
+ghost use Rattle.sn_core.specs.Core.{Core, opened, opening_cell, may_go, lays, take_first};
+ghost use Rattle.sn_core.specs.Seat.{SeatState, idle_seat, is_fresh, turn_of};
 
-ghost use Rattle.std.specs.List.{list_any};
-ghost use Rattle.sn_core.specs.Lane.{LaneState, first_packet};
+ghost use Rattle.std.specs.List.{list_any, range_with_len};
+ghost use Rattle.sn_core.specs.Lane.{LaneState, first_packet, free_lane};
 ghost use Rattle.sn_core.specs.Kept.{IsKept};
 ghost use Rattle.sn_core.specs.State.{core_of};
 
@@ -23,6 +23,17 @@ pub struct Machine {
 }
 
 impl Machine {
+    /// Cell i holds packet i at turn 0, lanes are free, and seats hold nothing.
+    pub fn open(alloc: Global, pool: u32, seats: u32, lanes: &[(u32, u32)]) -> Result<Machine, AllocError>
+        ensures { IfOk result (λ machine. core_of machine ≡ opened pool seats lanes.now) }
+    {
+        Ok(Machine {
+            cells: full_cells(alloc, pool)?,
+            lanes: free_lanes(alloc, lanes)?,
+            seats: idle_seats(alloc, pool, seats)?,
+        })
+    }
+
     /// Whether the seat may hand this packet over: it holds the packet, which isn't worn, and no lane has it laid.
     pub fn may_go(&self, number: u32, seat: usize) -> bool
         requires { seat < length (core_of self.now).seats }
@@ -62,4 +73,37 @@ impl Machine {
             self.seats[seat].hold(packet);
         }
     }
+}
+
+/// As many full cells, each with the packet of its own number.
+fn full_cells(alloc: Global, pool: u32) -> Result<Vec<Cell>, AllocError>
+    ensures { IfOk result (λ cells. cells.items ≡ map opening_cell (range_with_len 0 pool)) }
+{
+    let mut cells = Vec::with_capacity(alloc, pool as usize)?;
+    for number in 0..pool {
+        cells.push(Cell::Full(Packet { number, turn: 0 }))?;
+    }
+    Ok(cells)
+}
+
+/// A free lane for each pair of a transmitting and a receiving seat.
+fn free_lanes(alloc: Global, lanes: &[(u32, u32)]) -> Result<Vec<Lane>, AllocError>
+    ensures { IfOk result (λ made. made.items ≡ map (λ ends. free_lane ends.0 ends.1) lanes.now) }
+{
+    let mut made = Vec::with_capacity(alloc, lanes.len())?;
+    for ends in lanes {
+        made.push(Lane::new(alloc, ends.0, ends.1)?)?;
+    }
+    Ok(made)
+}
+
+/// As many seats, which hold nothing of a pool of this size.
+fn idle_seats(alloc: Global, pool: u32, seats: u32) -> Result<Vec<Seat>, AllocError>
+    ensures { IfOk result (λ made. made.items ≡ replicate seats (idle_seat pool)) }
+{
+    let mut made = Vec::with_capacity(alloc, seats as usize)?;
+    for _seat in 0..seats {
+        made.push(Seat::new(alloc, pool)?)?;
+    }
+    Ok(made)
 }

@@ -1,7 +1,7 @@
 // One seat: the packets that it holds, its pending transfer, and the numbers that it said and heard.
 ghost use Rattle.std.specs.Prelude.{◌≡◌, ◌<◌, ◌≤◌, length, IfOk, Some, None, is_none};
 ghost use Rattle.sn_core.specs.Seat.{SeatState, idle_seat, turn_of, holding, letting_go, with_pending};
-ghost use Rattle.sn_core.specs.Core.{claims};
+ghost use Rattle.sn_core.specs.Core.{claims, seat_has};
 
 use crate::parts::{Packet, Phase, Transfer};
 use std::alloc::{AllocError, Global};
@@ -47,6 +47,13 @@ impl Seat {
             Some(turn) => *turn,
             None => None,
         }
+    }
+
+    /// Whether the seat holds the packet of this number.
+    pub fn has(&self, number: u32) -> bool
+        ensures { result ≡ seat_has number self.now }
+    {
+        self.turn(number).is_some()
     }
 
     pub fn hold(&mut self, packet: Packet)
