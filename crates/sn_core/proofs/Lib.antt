@@ -1,0 +1,16 @@
+pub mod HandOver
+pub mod Weights
+pub mod Standing
+pub mod KeptReads
+pub mod StepsDone
+pub mod HandOvers
+pub mod LaneChanges
+pub mod Writes
+pub mod Links
+pub mod Keeps
+pub mod StepCases
+pub mod KeepsLanes
+pub mod KeepsCells
+pub mod KeepsAll
+pub mod Runs
+pub mod Opened

@@ -1,0 +1,36 @@
+-- What the machine keeps beside Sound: its sizes, and that what is about to be handed over isn't worn.
+use Rattle.std.specs.Prelude.{◌≡◌, ◌≢◌, ℕ, ◌<◌, ◌≤◌, Bool, true, Option, Some, None, IsTrue, List, length, slice_get, All}
+use Rattle.sn_core.specs.declared.parts.Phase.{Phase}
+use Rattle.sn_core.specs.declared.parts.Phase.TheVariants.{Taking, TakenOut, Giving, GivenIn}
+use Rattle.sn_core.specs.declared.parts.Transfer.{Transfer}
+use Rattle.sn_core.specs.Lane.{LaneState}
+use Rattle.sn_core.specs.Seat.{SeatState, is_fresh}
+use Rattle.sn_core.specs.Core.{Core, pool, standing}
+use Rattle.sn_core.specs.Sound.{turn_at, pending_at, IsSound}
+
+-- both ends of a lane are seats that are there
+pub record JoinsSeats (seats : ℕ) (lane : LaneState) : Type 0 where
+  pub tx : lane.tx_seat < seats
+  pub rx : lane.rx_seat < seats
+
+pub record HasShape (core : Core) : Type 0 where
+  pub size : pool core ≤ 16384
+  pub ends : All (JoinsSeats (length core.seats)) core.lanes
+  pub tables : All (λ seat. length seat.held ≡ pool core) core.seats
+  pub total : length (standing core) ≡ pool core
+
+-- the transfer is a giving
+abbrev pub Gives : Phase → Type 0
+Gives Taking = ⊥
+Gives TakenOut = ⊥
+Gives Giving = Unit {0}
+Gives GivenIn = Unit {0}
+
+pub record IsUnworn (core : Core) : Type 0 where
+  pub laid : (i n : ℕ) (lane : LaneState) → slice_get core.lanes i ≡ Some lane → lane.laid ≡ Some n → IsTrue (is_fresh (turn_at core lane.tx_seat n))
+  pub given : (s : ℕ) (transfer : Transfer) → pending_at core s ≡ Some transfer → Gives transfer.phase → IsTrue (is_fresh (turn_at core s transfer.packet))
+
+pub record IsKept (core : Core) : Type 0 where
+  pub sound : IsSound core
+  pub shape : HasShape core
+  pub unworn : IsUnworn core

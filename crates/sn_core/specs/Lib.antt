@@ -1,0 +1,6 @@
+pub mod Lane
+pub mod Seat
+pub mod Core
+pub mod Sound
+pub mod Kept
+pub mod State

@@ -1,0 +1,149 @@
+// The events of lanes.
+ghost use Rattle.std.specs.Prelude.{◌≡◌, ◌<◌, ◌≤◌, length};
+ghost use Rattle.sn_core.specs.Core.{Core, IsStep, take_first};
+ghost use Rattle.sn_core.specs.Kept.{IsKept};
+ghost use Rattle.sn_core.specs.State.{core_of};
+
+use crate::events::{Event, Side, Stepped};
+use crate::machine::Machine;
+use crate::parts::Packet;
+
+impl Machine {
+    /// An end comes up.
+    pub fn attach(&mut self, lane: u32, side: Side) -> Stepped
+        ensures { IsStep (core_of self.old) (Event.Attach lane side) result (core_of self.new) }
+    {
+        let i = lane as usize;
+        if i >= self.lanes.len() || !self.lanes[i].can_attach(side) {
+            return Stepped::NotEnabled;
+        }
+        self.lanes[i].attach(side);
+        Stepped::Done
+    }
+
+    /// An end goes, and closes the lane where it is down then.
+    pub fn detach(&mut self, lane: u32, side: Side) -> Stepped
+        ensures { IsStep (core_of self.old) (Event.Detach lane side) result (core_of self.new) }
+    {
+        let i = lane as usize;
+        if i >= self.lanes.len() || !self.lanes[i].can_detach(side) {
+            return Stepped::NotEnabled;
+        }
+        self.lanes[i].detach(side);
+        Stepped::Done
+    }
+
+    /// The closing end frees the lane.
+    pub fn reset(&mut self, lane: u32, side: Side) -> Stepped
+        ensures { IsStep (core_of self.old) (Event.Reset lane side) result (core_of self.new) }
+    {
+        let i = lane as usize;
+        if i >= self.lanes.len() || !self.lanes[i].can_reset(side) {
+            return Stepped::NotEnabled;
+        }
+        self.lanes[i].reset();
+        Stepped::Done
+    }
+
+    /// The receiver gives the emptied place back.
+    pub fn release(&mut self, lane: u32) -> Stepped
+        requires { IsKept (core_of self.old) }
+        ensures { IsStep (core_of self.old) (Event.Release lane) result (core_of self.new) }
+    {
+        let i = lane as usize;
+        if i >= self.lanes.len() || !self.lanes[i].can_release() {
+            return Stepped::NotEnabled;
+        }
+        self.lanes[i].release();
+        Stepped::Done
+    }
+
+    /// The transmitter takes the laid packet back.
+    pub fn take_back(&mut self, lane: u32) -> Stepped
+        ensures { IsStep (core_of self.old) (Event.TakeBack lane) result (core_of self.new) }
+    {
+        let i = lane as usize;
+        if i >= self.lanes.len() || !self.lanes[i].laid().is_some() {
+            return Stepped::NotEnabled;
+        }
+        self.lanes[i].set_laid(None);
+        Stepped::Done
+    }
+
+    /// The closing end gives the emptied place back.
+    pub fn drain_release(&mut self, lane: u32, side: Side) -> Stepped
+        requires { IsKept (core_of self.old) }
+        ensures { IsStep (core_of self.old) (Event.DrainRelease lane side) result (core_of self.new) }
+    {
+        let i = lane as usize;
+        if i >= self.lanes.len() || !self.lanes[i].can_drain_release(side) {
+            return Stepped::NotEnabled;
+        }
+        self.lanes[i].release();
+        Stepped::Done
+    }
+
+    /// The receiver takes the first packet.
+    pub fn take(&mut self, lane: u32) -> Stepped
+        requires { IsKept (core_of self.old) }
+        ensures { IsStep (core_of self.old) (Event.Take lane) result (core_of self.new) }
+    {
+        let i = lane as usize;
+        if i >= self.lanes.len() || !self.lanes[i].can_take() {
+            return Stepped::NotEnabled;
+        }
+        self.move_first(i, Side::Rx);
+        Stepped::Done
+    }
+
+    /// The closing end takes the first packet.
+    pub fn drain_take(&mut self, lane: u32, side: Side) -> Stepped
+        requires { IsKept (core_of self.old) }
+        ensures { IsStep (core_of self.old) (Event.DrainTake lane side) result (core_of self.new) }
+    {
+        let i = lane as usize;
+        if i >= self.lanes.len() || !self.lanes[i].can_drain(side) {
+            return Stepped::NotEnabled;
+        }
+        self.move_first(i, side);
+        Stepped::Done
+    }
+
+    /// The transmitter lays a packet that it holds.
+    pub fn lay(&mut self, lane: u32, packet: u32) -> Stepped
+        requires { IsKept (core_of self.old) }
+        ensures { IsStep (core_of self.old) (Event.Lay lane packet) result (core_of self.new) }
+    {
+        let i = lane as usize;
+        if i >= self.lanes.len() {
+            return Stepped::NotEnabled;
+        }
+        let seat = self.lanes[i].seat(Side::Tx) as usize;
+        if !self.lanes[i].can_lay() || !self.may_go(packet, seat) || self.seats[seat].claims(packet) {
+            return Stepped::NotEnabled;
+        }
+        self.lanes[i].set_laid(Some(packet));
+        Stepped::Done
+    }
+
+    /// The laid packet joins the queue, with its turn raised.
+    pub fn publish(&mut self, lane: u32) -> Stepped
+        requires { IsKept (core_of self.old) }
+        ensures { IsStep (core_of self.old) (Event.Publish lane) result (core_of self.new) }
+    {
+        let i = lane as usize;
+        if i >= self.lanes.len() {
+            return Stepped::NotEnabled;
+        }
+        let Some(number) = self.lanes[i].laid() else {
+            return Stepped::NotEnabled;
+        };
+        let seat = self.lanes[i].seat(Side::Tx) as usize;
+        let Some(turn) = self.seats[seat].turn(number) else {
+            return Stepped::NotEnabled;
+        };
+        self.lanes[i].publish(Packet { number, turn: turn + 1 });
+        self.seats[seat].let_go(number);
+        Stepped::Done
+    }
+}
