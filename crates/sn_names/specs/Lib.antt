@@ -1,2 +1,10 @@
+pub mod Classes
 pub mod DecimalText
 pub mod FileText
+pub mod FirstFault
+pub mod NameText
+pub mod LinkOrder
+pub mod LinkText
+pub mod Parts
+pub mod Rosters
+pub mod Spelled

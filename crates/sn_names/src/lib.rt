@@ -1,13 +1,25 @@
 //! The names of a scenario: files and numbers, as they stand in its text.
 #![tactic(auto)]
 
+mod arg;
+mod class;
 mod decimal_text;
 mod fault;
 mod file_name;
+mod link;
+mod link_text;
+mod name;
+mod parts;
+mod roster;
 
+pub use arg::Arg;
+pub use class::Class;
 pub use decimal_text::{decimal, push_decimal};
 pub use fault::NameFault;
 pub use file_name::FileName;
+pub use link::LinkSpec;
+pub use name::Name;
+pub use roster::Roster;
 
 #[cfg(test)]
 mod tests;
