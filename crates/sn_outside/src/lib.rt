@@ -25,3 +25,6 @@ pub use mem_sink::MemSink;
 pub use real_files::RealFiles;
 pub use sink::Sink;
 pub use std_out::StdOut;
+
+#[cfg(test)]
+mod tests;
