@@ -7,7 +7,7 @@ use Rattle.sn_pcap.specs.declared.order.Order.{Order}
 use Rattle.sn_pcap.specs.declared.order.Order.TheVariants.{Little, Big}
 use Rattle.sn_pcap.specs.Grammar.{micro, nano, IsMagic, version, HasHeader, Leads, PcapText}
 use Rattle.sn_pcap.specs.Places.{is_magic, order_of, payloads_in, payloads_at, payloads_of, extent, IsOpened}
-use Rattle.sn_pcap.proofs.Splitting.{in_leads, leads_in}
+use Rattle.sn_pcap.proofs.Splitting.{take_then, in_leads, leads_in}
 
 length-magic : (order : Order) (bytes : List ℕ) → IsMagic order bytes → length bytes ≡ 4
 unfolding micro nano
@@ -70,10 +70,7 @@ header_parts order bytes body h =
       total = omega (arith, ap (λ (xs : List ℕ). length xs) h.parts, length-append h.magic (version order ++ (h.further ++ body)), length-append (version order) (h.further ++ body), length-append h.further body, magic_len, version_len, h.further_is);
     }
 
--- what comes at a place, and what comes behind it
-take_then : (n m : ℕ) (xs : List ℕ) → take n (drop m xs) ++ drop (m + n) xs ≡ drop m xs
-take_then n m xs = rw (← drop-drop n m xs) (take-append-drop n (drop m xs))
-
+-- a list in four parts
 four_parts : (a b c : ℕ) (xs : List ℕ) → xs ≡ take a xs ++ (take b (drop a xs) ++ (take c (drop (a + b) xs) ++ drop (a + b + c) xs))
 four_parts a b c xs = rw (take_then c (a + b) xs, take_then b a xs, take-append-drop a xs) refl
 

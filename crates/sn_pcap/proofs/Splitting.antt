@@ -21,7 +21,7 @@ number_in-take Little bytes = little_from-take 0 4 4 bytes (omega arith)
 number_in-take Big bytes = big_from-take 0 4 4 bytes (omega arith)
 
 -- what comes at a place, and what comes behind it
-take_then : (n m : ℕ) (xs : List ℕ) → take n (drop m xs) ++ drop (m + n) xs ≡ drop m xs
+pub take_then : (n m : ℕ) (xs : List ℕ) → take n (drop m xs) ++ drop (m + n) xs ≡ drop m xs
 take_then n m xs = rw (← drop-drop n m xs) (take-append-drop n (drop m xs))
 
 -- a list in five parts

@@ -19,6 +19,7 @@ unfoldable pub nano : Order → List ℕ
 nano Little = 0x4d ∷ 0x3c ∷ 0xb2 ∷ 0xa1 ∷ []
 nano Big = 0xa1 ∷ 0xb2 ∷ 0x3c ∷ 0x4d ∷ []
 
+-- four bytes that a capture in this order begins with
 abbrev pub IsMagic : Order → List ℕ → Type 0
 IsMagic order bytes = (bytes ≡ micro order) ⊎ (bytes ≡ nano order)
 

@@ -1,4 +1,5 @@
-ghost use Rattle.std.specs.Prelude.{◌≡◌, length};
+ghost use Rattle.std.specs.Prelude.{◌≡◌, ◌≤◌, ◌↔◌, length, map, All, IsTrue, IfOk};
+ghost use Rattle.sn_pcap.specs.Faults.{HasFault};
 ghost use Rattle.sn_pcap.specs.Places.{payloads_of};
 
 use super::*;
@@ -37,6 +38,36 @@ fn outcome_of(bytes: Vec<u8>) -> Result<u64, PcapFault> {
     Ok(count_of(&capture))
 }
 
+/// Whether this is what is wrong with the bytes.
+fn has_fault(bytes: Vec<u8>, fault: PcapFault) -> bool
+    ensures { IsTrue result ↔ HasFault bytes.items fault }
+{
+    one_fault();
+    no_fault();
+    match Capture::open(bytes) {
+        Ok(_) => false,
+        Err(found) => found == fault,
+    }
+}
+
+/// Payloads written and opened again: never refused, and the same.
+fn reopened(alloc: Global, payloads: &[Vec<u8>]) -> Result<Capture, AllocError>
+    requires { All (λ payload. length payload ≤ 10240) (map (λ v. v.items) payloads.now) }
+    ensures { IfOk result (λ capture. payloads_of capture ≡ map (λ v. v.items) payloads.now) }
+{
+    let mut bytes = Vec::new(alloc);
+    write_header(&mut bytes)?;
+    for payload in payloads {
+        write_record(&mut bytes, payload)?;
+    }
+    written_is_read();
+    one_reading();
+    match Capture::open(bytes) {
+        Ok(capture) => Ok(capture),
+        Err(_) => unreachable!(),
+    }
+}
+
 /// The written form of payloads of 60, 60 and 1514 bytes.
 fn three_records(alloc: Global) -> Result<Vec<u8>, AllocError> {
     let mut bytes = Vec::new(alloc);
@@ -48,10 +79,12 @@ fn three_records(alloc: Global) -> Result<Vec<u8>, AllocError> {
 }
 
 #[test]
-fn three_records_are_written_and_read(rt: HostRuntime) -> Result<(), Fail> {
-    let bytes = three_records(rt.alloc())?;
-    assert_eq!(rt; bytes.len(), 1706);
-    let capture = Capture::open(bytes)?;
+fn what_is_written_is_read_again(rt: HostRuntime) -> Result<(), Fail> {
+    let first = Vec::from_slice(rt.alloc(), &[1; 60])?;
+    let second = Vec::from_slice(rt.alloc(), &[2; 60])?;
+    let third = Vec::from_slice(rt.alloc(), &[3; 1514])?;
+    let sent = [first, second, third];
+    let capture = reopened(rt.alloc(), &sent)?;
     let (records, payloads) = walked(rt.alloc(), &capture)?;
     let seen: Vec<(u64, u32, bool, u64)> = records
         .iter()
@@ -63,9 +96,7 @@ fn three_records_are_written_and_read(rt: HostRuntime) -> Result<(), Fail> {
         (192, 1514, false, 1706),
     ];
     assert_eq!(rt; seen.as_slice(), want.as_slice());
-    let mut joined = vec![in rt.alloc(); 1u8; 60]?;
-    joined.extend_from_slice(&[2; 60])?;
-    joined.extend_from_slice(&[3; 1514])?;
+    let joined = sent.concat(rt.alloc())?;
     assert_eq!(rt; payloads.as_slice(), joined.as_slice());
     Ok(())
 }
@@ -136,15 +167,32 @@ fn lengths_are_rewritten(rt: HostRuntime) -> Result<(), Fail> {
 }
 
 #[test]
-fn faults_are_printed_as_words(rt: HostRuntime) -> Result<(), Fail> {
+fn each_fault_has_its_bytes_and_its_word(rt: HostRuntime) -> Result<(), Fail> {
+    let mut front = Vec::new(rt.alloc());
+    write_header(&mut front)?;
+    let cut = [front.as_slice(), &[0; 16], &[0]].concat(rt.alloc())?;
+    let zeros = [0; 20];
     let table = [
-        (PcapFault::ShortHeader, "short-header"),
-        (PcapFault::BadMagic, "bad-magic"),
-        (PcapFault::BadVersion, "bad-version"),
-        (PcapFault::CutRecord { nth: 3 }, "cut-record 3"),
+        (
+            vec![in rt.alloc(); 0; 23]?,
+            PcapFault::ShortHeader,
+            "short-header",
+        ),
+        (
+            vec![in rt.alloc(); 0; 24]?,
+            PcapFault::BadMagic,
+            "bad-magic",
+        ),
+        (
+            [[0xd4, 0xc3, 0xb2, 0xa1].as_slice(), &zeros].concat(rt.alloc())?,
+            PcapFault::BadVersion,
+            "bad-version",
+        ),
+        (cut, PcapFault::CutRecord { nth: 2 }, "cut-record 2"),
     ];
-    for (fault, want) in table {
-        assert_eq!(rt; format!(in rt.alloc(); "{fault}")?.as_str(), want);
+    for (bytes, fault, word) in table {
+        assert!(rt; has_fault(bytes, fault), "{word}");
+        assert_eq!(rt; format!(in rt.alloc(); "{fault}")?.as_str(), word);
     }
     Ok(())
 }
