@@ -1,3 +1,4 @@
+pub mod Faulty
 pub mod Headed
 pub mod Splitting
 pub mod Standing

@@ -1,5 +1,5 @@
 -- The grammar's records against the ones that stand at places: a record is split off in one way.
-use Rattle.std.proofs.Common.{◌≡◌, ℕ, zero, suc, ◌+◌, ◌≤◌, List, [], ◌∷◌, ◌++◌, length, take, drop, refl, sym, ap, subst, ◌∙◌, arith, inl, inr, append_assoc}
+use Rattle.std.proofs.Common.{◌≡◌, ℕ, zero, suc, ◌+◌, ◌<◌, ◌≤◌, List, [], ◌∷◌, ◌++◌, length, take, drop, refl, sym, ap, subst, ◌∙◌, arith, inl, inr, append_assoc}
 use Rattle.std.proofs.lemmas.Bool.{cases_lt}
 use Rattle.std.proofs.lemmas.List.{length-drop, length-take, length-append, drop-drop, drop_at, take_at, take-append-drop}
 use Rattle.byteorder.specs.Numbers.{little_from-append, big_from-append, little_from-take, big_from-take}
@@ -21,7 +21,7 @@ number_in-take Little bytes = little_from-take 0 4 4 bytes (omega arith)
 number_in-take Big bytes = big_from-take 0 4 4 bytes (omega arith)
 
 -- what comes at a place, and what comes behind it
-take_then : (n m : ℕ) (xs : List ℕ) → take n (drop m xs) ++ drop (m + n) xs ≡ drop m xs
+pub take_then : (n m : ℕ) (xs : List ℕ) → take n (drop m xs) ++ drop (m + n) xs ≡ drop m xs
 take_then n m xs = rw (← drop-drop n m xs) (take-append-drop n (drop m xs))
 
 -- a list in five parts
@@ -102,25 +102,48 @@ in_leads (suc most) order bytes =
           (rest, splits order bytes whole, leads)
     ]
 
--- records that lead the bytes to their end are those that stand there
-pub record AreAll (most : ℕ) (order : Order) (bytes : List ℕ) (records : List (List ℕ)) : Type 0 where
-  pub same : payloads_in most order bytes ≡ records
-  pub filled : extent records ≡ length bytes
+-- behind the records that stand at the front no whole one comes
+pub in_stops : (most : ℕ) (order : Order) (bytes : List ℕ) → length bytes ≤ most
+    → length (drop (extent (payloads_in most order bytes)) bytes) < 16 + captured_at order (drop (extent (payloads_in most order bytes)) bytes)
+in_stops zero order bytes h =
+    rw (in_none order bytes) (omega arith)
+in_stops (suc most) order bytes h =
+    elim (cases_lt (length bytes) (16 + captured_at order bytes)) [
+      | inl cut ↦ rw (in_cut (suc most) order bytes cut) cut
+      | inr whole ↦
+          let payload = take (captured_at order bytes) (drop 16 bytes) in
+          let rest = drop (16 + captured_at order bytes) bytes in
+          let more = payloads_in most order rest in
+          let is_len : length payload ≡ captured_at order bytes =
+          omega (arith, length-take (captured_at order bytes) (drop 16 bytes), length-drop 16 bytes) in
+          let behind : drop (extent more) rest ≡ drop (16 + length payload + extent more) bytes =
+          rw (is_len) (drop-drop (extent more) (16 + captured_at order bytes) bytes) in
+          let shorter : length rest ≤ most = omega (arith, length-drop (16 + captured_at order bytes) bytes) in
+          let stops : length (drop (16 + length payload + extent more) bytes) < 16 + captured_at order (drop (16 + length payload + extent more) bytes) =
+          subst (λ (xs : List ℕ). length xs < 16 + captured_at order xs) behind (in_stops most order rest shorter) in
+          subst (λ (ps : List (List ℕ)). length (drop (extent ps) bytes) < 16 + captured_at order (drop (extent ps) bytes))
+          (sym (in_whole most order bytes whole)) stops
+    ]
 
-pub leads_in : (most : ℕ) (order : Order) (bytes : List ℕ) (records : List (List ℕ)) → length bytes ≤ most
-    → Leads order bytes records [] → AreAll most order bytes records
-leads_in most order bytes [] h leads =
-    let none : length bytes ≡ 0 = ap (λ (xs : List ℕ). length xs) leads in
-    record { same = in_cut most order bytes (omega arith); filled = sym none }
-leads_in zero order bytes (payload ∷ more) h leads =
+-- records that lead the bytes to where no whole one comes are those that stand there
+pub record AreAll (most : ℕ) (order : Order) (bytes : List ℕ) (records : List (List ℕ)) (rest : List ℕ) : Type 0 where
+  pub same : payloads_in most order bytes ≡ records
+  pub filled : extent records + length rest ≡ length bytes
+
+pub leads_in : (most : ℕ) (order : Order) (bytes : List ℕ) (records : List (List ℕ)) (rest : List ℕ) → length bytes ≤ most
+    → length rest < 16 + captured_at order rest → Leads order bytes records rest → AreAll most order bytes records rest
+leads_in most order bytes [] rest h stop leads =
+    let cut : length bytes < 16 + captured_at order bytes = rw leads stop in
+    record { same = in_cut most order bytes cut; filled = omega (arith, ap (λ (xs : List ℕ). length xs) leads) }
+leads_in zero order bytes (payload ∷ more) rest h stop leads =
     let first = first_is order bytes payload leads.0 leads.1 in
     absurd (omega (arith, first.total))
-leads_in (suc most) order bytes (payload ∷ more) h leads =
+leads_in (suc most) order bytes (payload ∷ more) rest h stop leads =
     let first = first_is order bytes payload leads.0 leads.1 in
     let shorter : length leads.0 ≤ most = omega (arith, first.total) in
-    let rest = leads_in most order leads.0 more shorter leads.2 in
+    let later = leads_in most order leads.0 more rest shorter stop leads.2 in
     let fits : 16 + captured_at order bytes ≤ length bytes = omega (arith, first.total, first.says) in
     record {
-      same = in_whole most order bytes fits ∙ rw (first.payload_is, first.rest_is, rest.same) refl;
-      filled = omega (arith, first.total, rest.filled);
+      same = in_whole most order bytes fits ∙ rw (first.payload_is, first.rest_is, later.same) refl;
+      filled = omega (arith, first.total, later.filled);
     }

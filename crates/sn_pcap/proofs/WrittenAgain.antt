@@ -1,12 +1,12 @@
 -- The written form is in the grammar.
-use Rattle.std.proofs.Common.{◌≡◌, ℕ, ◌<◌, ◌≤◌, List, [], ◌∷◌, ◌++◌, length, replicate, refl, sym, ap, ◌∙◌, arith, append_assoc}
+use Rattle.std.proofs.Common.{◌≡◌, ℕ, ◌<◌, ◌≤◌, List, [], ◌∷◌, ◌++◌, length, replicate, refl, sym, ap, ◌∙◌, arith, append_assoc, inl}
 use Rattle.std.specs.Prelude.{All, flat_map}
 use Rattle.std.proofs.lemmas.List.{append-nil}
 use Rattle.std.proofs.lemmas.List.Elements.{All-head, All-tail}
 use Rattle.byteorder.specs.Endian.{little_bytes}
 use Rattle.byteorder.specs.Numbers.{little_number-reads_back, length-bytes_low_first}
 use Rattle.sn_pcap.specs.declared.order.Order.TheVariants.{Little}
-use Rattle.sn_pcap.specs.Grammar.{number_in, magic, version, SplitsOff, Leads, PcapText}
+use Rattle.sn_pcap.specs.Grammar.{number_in, micro, version, SplitsOff, Leads, PcapText}
 use Rattle.sn_pcap.specs.Written.{written_header, header_of, written_record, written}
 
 -- four little endian bytes of a number below 2 ^ 32 are read as it
@@ -37,11 +37,16 @@ records_lead (payload ∷ more) h =
     (flat_map written_record more, record_splits payload (flat_map written_record more) (All-head (λ p. length p ≤ 10240) payload more h), records_lead more (All-tail (λ p. length p ≤ 10240) payload more h))
 
 pub written_again : (payloads : List (List ℕ)) → All (λ payload. length payload ≤ 10240) payloads → PcapText (written payloads) payloads
-unfolding written_header magic version
+unfolding written_header micro version
 written_again payloads h = record {
-  further = 0 ∷ 0 ∷ 0 ∷ 0 ∷ 0 ∷ 0 ∷ 0 ∷ 0 ∷ 0xff ∷ 0xff ∷ 0 ∷ 0 ∷ 1 ∷ 0 ∷ 0 ∷ 0 ∷ [];
+  order = Little;
   body = flat_map written_record payloads;
-  parts = refl;
-  further_is = refl;
+  header = record {
+    magic = 0xd4 ∷ 0xc3 ∷ 0xb2 ∷ 0xa1 ∷ [];
+    further = 0 ∷ 0 ∷ 0 ∷ 0 ∷ 0 ∷ 0 ∷ 0 ∷ 0 ∷ 0xff ∷ 0xff ∷ 0 ∷ 0 ∷ 1 ∷ 0 ∷ 0 ∷ 0 ∷ [];
+    parts = refl;
+    magic_is = inl refl;
+    further_is = refl;
+  };
   leads = records_lead payloads h;
 }

@@ -1,5 +1,5 @@
 -- The grammar of a capture, by libpcap's file format 2.4: a header, then whole records to the end.
-use Rattle.std.specs.Prelude.{◌≡◌, ℕ, List, [], ◌∷◌, ◌++◌, length}
+use Rattle.std.specs.Prelude.{◌≡◌, ℕ, List, [], ◌∷◌, ◌++◌, ◌⊎◌, length}
 use Rattle.byteorder.specs.Endian.{little_number, big_number}
 use Rattle.sn_pcap.specs.declared.order.Order.{Order}
 use Rattle.sn_pcap.specs.declared.order.Order.TheVariants.{Little, Big}
@@ -9,10 +9,19 @@ unfoldable pub number_in : Order → List ℕ → ℕ
 number_in Little bytes = little_number 4 bytes
 number_in Big bytes = big_number 4 bytes
 
--- the magic: the number a1b2c3d4, in four bytes
-unfoldable pub magic : Order → List ℕ
-magic Little = 0xd4 ∷ 0xc3 ∷ 0xb2 ∷ 0xa1 ∷ []
-magic Big = 0xa1 ∷ 0xb2 ∷ 0xc3 ∷ 0xd4 ∷ []
+-- the magic of times in microseconds: the number a1b2c3d4, in four bytes
+unfoldable pub micro : Order → List ℕ
+micro Little = 0xd4 ∷ 0xc3 ∷ 0xb2 ∷ 0xa1 ∷ []
+micro Big = 0xa1 ∷ 0xb2 ∷ 0xc3 ∷ 0xd4 ∷ []
+
+-- the magic of times in nanoseconds: the number a1b23c4d, in four bytes
+unfoldable pub nano : Order → List ℕ
+nano Little = 0x4d ∷ 0x3c ∷ 0xb2 ∷ 0xa1 ∷ []
+nano Big = 0xa1 ∷ 0xb2 ∷ 0x3c ∷ 0x4d ∷ []
+
+-- four bytes that a capture in this order begins with
+abbrev pub IsMagic : Order → List ℕ → Type 0
+IsMagic order bytes = (bytes ≡ micro order) ⊎ (bytes ≡ nano order)
 
 -- version 2.4: the numbers 2 and 4, in two bytes each
 unfoldable pub version : Order → List ℕ
@@ -37,14 +46,18 @@ Leads order bytes [] rest = bytes ≡ rest
 Leads order bytes (payload ∷ more) rest =
     (between : List ℕ) × SplitsOff order bytes payload between × Leads order between more rest
 
--- a header of 24 bytes, and then whole records with these payloads to the end
-pub record PcapTextIn (order : Order) (bytes : List ℕ) (records : List (List ℕ)) : Type 0 where
+-- In this byte order, a header of 24 bytes comes first, and then the body. A header is a magic, version 2.4, and 16
+-- further bytes: zone, sigfigs, snaplen and link type, which may be anything.
+pub record HasHeader (order : Order) (bytes body : List ℕ) : Type 0 where
+  pub magic : List ℕ
   pub further : List ℕ
-  pub body : List ℕ
-  pub parts : bytes ≡ magic order ++ (version order ++ (further ++ body))
+  pub parts : bytes ≡ magic ++ (version order ++ (further ++ body))
+  pub magic_is : IsMagic order magic
   pub further_is : length further ≡ 16
-  pub leads : Leads order body records []
 
--- the bytes are a capture of these records, of the one form that is read so far
-abbrev pub PcapText : List ℕ → List (List ℕ) → Type 0
-PcapText bytes records = PcapTextIn Little bytes records
+-- the bytes are a capture of these records: a header, and then whole records with these payloads to the end
+pub record PcapText (bytes : List ℕ) (records : List (List ℕ)) : Type 0 where
+  pub order : Order
+  pub body : List ℕ
+  pub header : HasHeader order bytes body
+  pub leads : Leads order body records []

@@ -1,10 +1,9 @@
 -- The records of a capture by the places where they stand, which its reader steps over.
-use Rattle.std.specs.Prelude.{◌≡◌, ℕ, zero, suc, ◌+◌, ◌<◌, ◌≤◌, ◌↔◌, ◌==◌, IsTrue, if◌then◌else◌, nat_le, List, [], ◌∷◌, length, take, drop, slice_index}
+use Rattle.std.specs.Prelude.{◌≡◌, ℕ, zero, suc, ◌+◌, ◌<◌, ◌≤◌, ◌↔◌, ◌==◌, Bool, IsTrue, if◌then◌else◌, nat_le, List, [], ◌∷◌, length, take, drop, slice_index, bytes_eq, ◌||◌}
 use Rattle.sn_pcap.specs.declared.order.Order.{Order}
 use Rattle.sn_pcap.specs.declared.order.Order.TheVariants.{Little, Big}
 use Rattle.sn_pcap.specs.declared.record.RecordAt.{RecordAt}
-use Rattle.sn_pcap.specs.Grammar.{number_in, magic, version}
-use Rattle.std.specs.Prelude.{◌++◌}
+use Rattle.sn_pcap.specs.Grammar.{number_in, micro, nano, version}
 
 -- the byte order that a capture's first byte tells
 unfoldable pub order_of : List ℕ → Order
@@ -63,8 +62,13 @@ pub record IsAtEnd (bytes : List ℕ) (at : ℕ) : Type 0 where
   pub at_end : at ≡ length bytes
   pub none_left : payloads_at bytes at ≡ []
 
+-- whether these four bytes are a magic in this order
+abbrev pub is_magic : Order → List ℕ → Bool
+is_magic order bytes = bytes_eq bytes (micro order) || bytes_eq bytes (nano order)
+
 -- an opened capture: its order, its header and its whole records
 pub record IsOpened (order : Order) (bytes : List ℕ) : Type 0 where
   pub order_is : order ≡ order_of bytes
-  pub header : take 8 bytes ≡ magic Little ++ version Little
+  pub magic : IsTrue (is_magic order (take 4 bytes))
+  pub version_is : take 4 (drop 4 bytes) ≡ version order
   pub whole : IsPlace bytes 24

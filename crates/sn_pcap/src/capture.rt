@@ -1,17 +1,19 @@
 //! A capture, opened once and then read record by record.
 
-ghost use Rattle.std.specs.Prelude.{◌≡◌, ◌+◌, ◌<◌, ◌↔◌, ◌++◌, ℕ, List, length, take, IsTrue, IfOk, OnOk, OnErr, IfSome, IfNone};
-ghost use Rattle.sn_pcap.specs.declared.order.Order.TheVariants.{Little};
-ghost use Rattle.sn_pcap.specs.Grammar.{PcapText, magic, version};
-ghost use Rattle.sn_pcap.specs.Places.{order_of, payloads_of, payload_of, IsPlace, IsRecordOf, StandsAt, IsAtEnd, IsOpened};
+ghost use Rattle.std.specs.Prelude.{◌≡◌, ℕ, List, IfOk, IfErr, OnErr, IfSome, IfNone};
+ghost use Rattle.sn_pcap.specs.declared.fault.PcapFault.{PcapFault};
+ghost use Rattle.sn_pcap.specs.Faults.{HasFault};
+ghost use Rattle.sn_pcap.specs.Grammar.{PcapText};
+ghost use Rattle.sn_pcap.specs.Places.{payloads_of, payload_of, IsPlace, IsRecordOf, StandsAt, IsAtEnd, IsOpened};
 
 use crate::fault::PcapFault;
+use crate::header::{HEADER_LEN, has_version, order_of_magic};
 use crate::order::Order;
-use crate::record::{MAX_PAYLOAD, RecordAt, captured_length, cut_record};
+use crate::record::{RecordAt, cut_record, found_at};
 use std::marker::Model;
 
 /// A capture in libpcap's file format 2.4, all of its records whole. Contracts see its bytes.
-#[derive(Drop)]
+#[derive(Debug, Drop)]
 pub struct Capture {
     bytes: Vec<u8>,
     order: Order,
@@ -25,38 +27,43 @@ impl Model for Capture {
     ghost invariant = { λ c. IsOpened c.order c.bytes.items };
 }
 
-/// Whether the bytes begin as a capture does: little endian, microseconds, version 2.4.
-#[tactic(auto, unfolding(crate::specs::Grammar::magic, crate::specs::Grammar::version))]
-fn has_front(bytes: &[u8]) -> bool
-    ensures { IsTrue result ↔ (take 8 bytes.now ≡ magic Little ++ version Little) }
-{
-    matches!(bytes, [0xd4, 0xc3, 0xb2, 0xa1, 2, 0, 4, 0, ..])
-}
-
 /// The byte order of a capture, or what is wrong with the bytes.
 fn order_if_whole(bytes: &[u8]) -> Result<Order, PcapFault>
     ensures opened { IfOk result (λ order. IsOpened order bytes.now) }
-    ensures text { OnOk result (PcapText bytes.now (payloads_of bytes.now)) }
-    ensures fault { OnErr result ((records : List (List ℕ)) → PcapText bytes.now records → ⊥) }
+    ensures fault { IfErr result (HasFault bytes.now) }
 {
-    if bytes.len() < 24 {
-        return Err(PcapFault::NotThisForm);
+    if bytes.len() < HEADER_LEN {
+        return Err(PcapFault::ShortHeader);
     }
-    if !has_front(bytes) {
-        return Err(PcapFault::NotThisForm);
+    let Some(order) = order_of_magic(bytes) else {
+        return Err(PcapFault::BadMagic);
+    };
+    if !has_version(order, bytes) {
+        return Err(PcapFault::BadVersion);
     }
-    match cut_record(Order::Little, bytes) {
-        Some(_) => Err(PcapFault::NotThisForm),
-        None => Ok(Order::Little),
+    match cut_record(order, bytes) {
+        Some(nth) => Err(PcapFault::CutRecord { nth }),
+        None => Ok(order),
     }
 }
 
 impl Capture {
-    /// Opens a capture. It takes no memory, and walks once over the record headers.
+    /// Opens a capture: a header of 24 bytes, and then whole records to the end. Zone, sigfigs, snaplen, link type, times
+    /// and original lengths may be anything. It takes no memory, and walks once over the record headers.
+    ///
+    /// What comes first of these is the fault: fewer than 24 bytes, another magic, another version than 2.4, and a
+    /// record that isn't whole.
     pub fn open(bytes: Vec<u8>) -> Result<Capture, PcapFault>
+        // The capture is the bytes, and they are the text of its records.
         ensures opened { IfOk result (λ c. c ≡ bytes.items) }
         ensures text { IfOk result (λ c. PcapText c (payloads_of c)) }
+
+        // Only what isn't the text of any records is refused.
         ensures fault { OnErr result ((records : List (List ℕ)) → PcapText bytes.items records → ⊥) }
+
+        // The fault is one that the bytes have, and each one that they have is it.
+        ensures cause { IfErr result (HasFault bytes.items) }
+        ensures exact { (fault : PcapFault) → HasFault bytes.items fault → result ≡ Err fault }
     {
         let order = order_if_whole(&bytes)?;
         Ok(Capture { bytes, order })
@@ -72,7 +79,7 @@ impl Capture {
         24
     }
 
-    /// The record at a place, or None exactly at the end.
+    /// The record at a place, which is `first()` or a record's `next`, or None exactly at the end.
     pub fn record(&self, at: u64) -> Option<RecordAt>
         requires { IsPlace self.now at }
         ensures found { IfSome result (StandsAt self.now at) }
@@ -84,29 +91,12 @@ impl Capture {
         Some(found_at(self.order, &self.bytes, at))
     }
 
-    /// The captured bytes of a record of this capture.
+    /// The captured bytes of a record that `record` of this capture found.
     pub fn payload(&self, at: RecordAt) -> &[u8]
         requires { IsRecordOf self.now at }
         ensures { result.now ≡ payload_of self.now at }
     {
         let start = at.start as usize;
         &self.bytes[start..start + at.len as usize]
-    }
-}
-
-/// The whole record that stands at a place before the end.
-fn found_at(order: Order, bytes: &[u8], at: u64) -> RecordAt
-    requires order { order ≡ order_of bytes.now }
-    requires place { IsPlace bytes.now at }
-    requires left { at < length bytes.now }
-    ensures { StandsAt bytes.now at result }
-{
-    let len = captured_length(order, bytes, at as usize);
-    let start = at + 16;
-    RecordAt {
-        start,
-        len,
-        oversize: len > MAX_PAYLOAD,
-        next: start + u64::from(len),
     }
 }

@@ -3,6 +3,7 @@
 
 mod capture;
 mod fault;
+mod header;
 mod laws;
 mod order;
 mod record;
@@ -10,7 +11,7 @@ mod writing;
 
 pub use capture::Capture;
 pub use fault::PcapFault;
-pub use laws::{one_reading, written_is_read};
+pub use laws::{no_fault, one_fault, one_reading, written_is_read};
 pub use record::{MAX_PAYLOAD, RecordAt};
 pub use writing::{write_header, write_record};
 
