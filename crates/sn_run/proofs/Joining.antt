@@ -6,13 +6,13 @@ use Rattle.sn_outside.specs.Contents.{Contents}
 use Rattle.sn_outside.specs.declared.files.FileCall.{FileCall}
 use Rattle.sn_pcap.specs.Places.{payloads_of}
 use Rattle.sn_pcap.specs.Written.{written}
-use Rattle.sn_run.specs.Causes.{FileEnds, RunEnds, EndsHungry, EndsWritten, HasScenario, HasCapture, Cause, NoCapture, most_scenario, most_capture, both_reads, with_files}
+use Rattle.sn_run.specs.Causes.{FileEnds, RunEnds, EndsHungry, EndsWritten, HasScenario, HasCapture, Cause, RefusesScenario, RefusesCapture, most_scenario, most_capture, both_reads, with_files}
 use Rattle.sn_run.specs.Copying.{Copying}
 use Rattle.sn_run.specs.Reported.{RunReport, report_of, most_read, copied}
 use Rattle.sn_run.specs.Seen.{seen, Made, Kept, Found, IsLonger, Rises, ReadGave, a_read}
 use Rattle.sn_run.specs.Steps.{StepEnds, GaveScenario, GaveCapture, WriteEnds}
 use Rattle.sn_run.specs.declared.status.Status.{Status}
-use Rattle.sn_run.specs.declared.status.Status.TheVariants.{Drained, RoundsUsed, BadWords, NotYet, ReadFault, TooLong, WriteFault, PrintFault, OutOfMemory}
+use Rattle.sn_run.specs.declared.status.Status.TheVariants.{Drained, RoundsUsed, BadWords, NotYet, BadPcap, ReadFault, TooLong, WriteFault, PrintFault, OutOfMemory}
 
 module _ (tells : Bool) (m0 m1 m2 : Contents) (k0 k1 k2 : List FileCall) (f0 f1 f2 : ℕ) where
   found_through : (name : List ℕ) (limit : ℕ) (bytes : List ℕ) → Kept (seen tells m0 m1 k0 k1 f0 f1) → Found (seen tells m1 m2 k1 k2 f1 f2) name limit bytes → Found (seen tells m0 m2 k0 k2 f0 f2) name limit bytes
@@ -32,29 +32,34 @@ module _ (tells : Bool) (m0 m1 m2 : Contents) (k0 k1 k2 : List FileCall) (f0 f1 
 
   module _ (earlier : List ℕ) (most : ℕ) (bytes : List ℕ) (gave : ReadGave (seen tells m0 m1 k0 k1 f0 f1) earlier most bytes) where
     -- a file that ends a run in its second step ends it in both
-    file_ends_through : (name : List ℕ) (limit : ℕ) (Refused : List ℕ → Type 0) (status : Status) → FileEnds (seen tells m1 m2 k1 k2 f1 f2) [] name limit Refused status → FileEnds (seen tells m0 m2 k0 k2 f0 f2) (a_read earlier (Ok tt) ∷ []) name limit Refused status
-    file_ends_through name limit Refused Drained ends = ends
-    file_ends_through name limit Refused (RoundsUsed n) ends = ends
-    file_ends_through name limit Refused BadWords ends = ends
-    file_ends_through name limit Refused (NotYet n) ends = record {
-      named = ends.named;
+    file_ends_through : (name : List ℕ) (limit : ℕ) (Refuses : List ℕ → Status → Type 0) (status : Status) → FileEnds (seen tells m1 m2 k1 k2 f1 f2) [] name limit Refuses status → FileEnds (seen tells m0 m2 k0 k2 f0 f2) (a_read earlier (Ok tt) ∷ []) name limit Refuses status
+    file_ends_through name limit Refuses Drained ends = ends
+    file_ends_through name limit Refuses (RoundsUsed n) ends = ends
+    file_ends_through name limit Refuses BadWords ends = ends
+    file_ends_through name limit Refuses (NotYet n) ends = record {
       bytes = ends.bytes;
       found = found_through name limit ends.bytes gave.kept ends.found;
       refused = ends.refused;
       made = made_through _ _ gave.made ends.made;
     }
-    file_ends_through name limit Refused (ReadFault n) ends = (record { named = ends.0.named; made = made_through _ _ gave.made ends.0.made }, rises_through gave.later ends.1)
-    file_ends_through name limit Refused (TooLong n) ends = (record { named = ends.0.named; made = made_through _ _ gave.made ends.0.made }, longer_through name limit gave.kept ends.1)
-    file_ends_through name limit Refused (WriteFault n) ends = ends
-    file_ends_through name limit Refused PrintFault ends = ends
-    file_ends_through name limit Refused OutOfMemory ends = record { calls = ends.calls; one = ends.one; made = made_through _ _ gave.made ends.made }
+    file_ends_through name limit Refuses (BadPcap n fault) ends = record {
+      bytes = ends.bytes;
+      found = found_through name limit ends.bytes gave.kept ends.found;
+      refused = ends.refused;
+      made = made_through _ _ gave.made ends.made;
+    }
+    file_ends_through name limit Refuses (ReadFault n) ends = (record { named = ends.0.named; made = made_through _ _ gave.made ends.0.made }, rises_through gave.later ends.1)
+    file_ends_through name limit Refuses (TooLong n) ends = (record { named = ends.0.named; made = made_through _ _ gave.made ends.0.made }, longer_through name limit gave.kept ends.1)
+    file_ends_through name limit Refuses (WriteFault n) ends = ends
+    file_ends_through name limit Refuses PrintFault ends = ends
+    file_ends_through name limit Refuses OutOfMemory ends = record { calls = ends.calls; one = ends.one; made = made_through _ _ gave.made ends.made }
 
   module _ (file : List ℕ) (c : Copying) (gave : GaveScenario (seen tells m0 m1 k0 k1 f0 f1) file c) where
     scenario_had : HasScenario (seen tells m0 m2 k0 k2 f0 f2) file c
     scenario_had = record { text = gave.text; found = record { told = gave.gave.found.told; short = gave.gave.found.short }; is = gave.is }
 
     -- the capture ends the run
-    pub capture_ends : (name : List ℕ) (ended status : Status) (report : Option RunReport) → name ≡ c.input → StepEnds (seen tells m1 m2 k1 k2 f1 f2) name most_capture NoCapture ended → status ≡ ended → report ≡ None → Cause (seen tells m0 m2 k0 k2 f0 f2) file report status
+    pub capture_ends : (name : List ℕ) (ended status : Status) (report : Option RunReport) → name ≡ c.input → StepEnds (seen tells m1 m2 k1 k2 f1 f2) name most_capture (RefusesCapture name) ended → status ≡ ended → report ≡ None → Cause (seen tells m0 m2 k0 k2 f0 f2) file report status
     capture_ends name ended status report named step is none = inl (record {
       none = none;
       kept = kept_through gave.gave.kept step.kept;
@@ -62,9 +67,9 @@ module _ (tells : Bool) (m0 m1 m2 : Contents) (k0 k1 k2 : List FileCall) (f0 f1 
         c = c;
         scenario = scenario_had;
         capture =
-            subst (λ s. FileEnds (seen tells m0 m2 k0 k2 f0 f2) (a_read file (Ok tt) ∷ []) c.input most_capture NoCapture s) (sym is)
-            (subst (λ n. FileEnds (seen tells m0 m2 k0 k2 f0 f2) (a_read file (Ok tt) ∷ []) n most_capture NoCapture ended) named
-            (file_ends_through file most_scenario gave.text gave.gave name most_capture NoCapture ended step.ends));
+            subst (λ s. FileEnds (seen tells m0 m2 k0 k2 f0 f2) (a_read file (Ok tt) ∷ []) c.input most_capture (RefusesCapture c.input) s) (sym is)
+            (subst (λ n. FileEnds (seen tells m0 m2 k0 k2 f0 f2) (a_read file (Ok tt) ∷ []) n most_capture (RefusesCapture n) ended) named
+            (file_ends_through file most_scenario gave.text gave.gave name most_capture (RefusesCapture name) ended step.ends));
       });
     })
 
@@ -86,7 +91,7 @@ module _ (tells : Bool) (m0 m1 m2 : Contents) (k0 k1 k2 : List FileCall) (f0 f1 
         scenario = scenario_had;
         capture =
             (let hungry : EndsHungry (seen tells m0 m2 k0 k2 f0 f2) (a_read file (Ok tt) ∷ []) c.input = record { calls = a_read c.input (Ok tt) ∷ []; one = (Ok tt, refl); made = both_made name capture named read } in
-            subst (λ s. FileEnds (seen tells m0 m2 k0 k2 f0 f2) (a_read file (Ok tt) ∷ []) c.input most_capture NoCapture s) (sym is) hungry);
+            subst (λ s. FileEnds (seen tells m0 m2 k0 k2 f0 f2) (a_read file (Ok tt) ∷ []) c.input most_capture (RefusesCapture c.input) s) (sym is) hungry);
       });
     })
 
@@ -110,6 +115,7 @@ module _ (tells : Bool) (m0 m2 m3 : Contents) (k0 k2 k3 : List FileCall) (f0 f2 
   run_ends_through name told (RoundsUsed n) ends = (written_through name told ends.0, ends.1, ends.2)
   run_ends_through name told BadWords ends = ends
   run_ends_through name told (NotYet n) ends = ends
+  run_ends_through name told (BadPcap n fault) ends = ends
   run_ends_through name told (ReadFault n) ends = ends
   run_ends_through name told (TooLong n) ends = ends
   run_ends_through name told (WriteFault n) ends = (
@@ -172,6 +178,7 @@ module _ (tells : Bool) (m0 m1 m2 m3 : Contents) (k0 k1 k2 k3 : List FileCall) (
   write_ends output told report (RoundsUsed n) at is ends = run_ended output told report (RoundsUsed n) at is ends.0 ends.1
   write_ends output told report BadWords at is ends = absurd ends.1
   write_ends output told report (NotYet n) at is ends = absurd ends.1
+  write_ends output told report (BadPcap n fault) at is ends = absurd ends.1
   write_ends output told report (ReadFault n) at is ends = absurd ends.1
   write_ends output told report (TooLong n) at is ends = absurd ends.1
   write_ends output told report (WriteFault n) at is ends = run_ended output told report (WriteFault n) at is ends.0 ends.1

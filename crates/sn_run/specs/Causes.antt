@@ -5,12 +5,13 @@ use Rattle.sn_outside.specs.Contents.{Contents}
 use Rattle.sn_outside.specs.declared.fault.FileFault.{FileFault}
 use Rattle.sn_outside.specs.declared.fault.FileFault.TheVariants.{Failed, TooLong as Long}
 use Rattle.sn_outside.specs.declared.files.FileCall.{FileCall}
+use Rattle.sn_pcap.specs.Faults.{HasFault}
 use Rattle.sn_pcap.specs.Grammar.{PcapText}
 use Rattle.sn_run.specs.Copying.{Copying, IsScenario}
 use Rattle.sn_run.specs.Reported.{RunReport, WrittenFile, IsRun}
 use Rattle.sn_run.specs.Seen.{Seen, Made, Kept, Found, IsLonger, Rises, a_read, a_write}
 use Rattle.sn_run.specs.declared.status.Status.{Status}
-use Rattle.sn_run.specs.declared.status.Status.TheVariants.{Drained, RoundsUsed, BadWords, NotYet, ReadFault, TooLong, WriteFault, OutOfMemory}
+use Rattle.sn_run.specs.declared.status.Status.TheVariants.{Drained, RoundsUsed, BadWords, NotYet, BadPcap, ReadFault, TooLong, WriteFault, OutOfMemory}
 
 -- the words are `run FILE`, with a name of 1 to 4096 bytes
 pub record IsRunOf (words : List (List ℕ)) (file : List ℕ) : Type 0 where
@@ -33,12 +34,11 @@ pub record EndsUnread (w : Seen) (prior : List FileCall) (name : List ℕ) (faul
   pub named : answered ≡ name
   pub made : Made w (prior ++ a_read name (Err fault) ∷ [])
 
--- The bytes of a file ended the run: they aren't of the form.
-pub record EndsRefused (w : Seen) (prior : List FileCall) (name : List ℕ) (limit : ℕ) (Refused : List ℕ → Type 0) (answered : List ℕ) : Type 0 where
-  pub named : answered ≡ name
+-- The bytes of a file ended the run: they are refused with this answer.
+pub record EndsRefused (w : Seen) (prior : List FileCall) (name : List ℕ) (limit : ℕ) (Refuses : List ℕ → Status → Type 0) (status : Status) : Type 0 where
   pub bytes : List ℕ
   pub found : Found w name limit bytes
-  pub refused : Refused bytes
+  pub refused : Refuses bytes status
   pub made : Made w (prior ++ a_read name (Ok tt) ∷ [])
 
 -- nothing more was called, or this file was read
@@ -54,19 +54,26 @@ pub record EndsHungry (w : Seen) (prior : List FileCall) (name : List ℕ) : Typ
   pub made : Made w (prior ++ calls)
 
 -- a file ended the run with this answer, by its read or by what it holds
-abbrev pub FileEnds : Seen → List FileCall → List ℕ → ℕ → (List ℕ → Type 0) → Status → Type 0
-FileEnds w prior name limit Refused (ReadFault answered) = EndsUnread w prior name Failed answered × Rises w
-FileEnds w prior name limit Refused (TooLong answered) = EndsUnread w prior name Long answered × IsLonger w name limit
-FileEnds w prior name limit Refused (NotYet answered) = EndsRefused w prior name limit Refused answered
-FileEnds w prior name limit Refused OutOfMemory = EndsHungry w prior name
-FileEnds w prior name limit Refused _ = ⊥
+abbrev pub FileEnds : Seen → List FileCall → List ℕ → ℕ → (List ℕ → Status → Type 0) → Status → Type 0
+FileEnds w prior name limit Refuses (ReadFault answered) = EndsUnread w prior name Failed answered × Rises w
+FileEnds w prior name limit Refuses (TooLong answered) = EndsUnread w prior name Long answered × IsLonger w name limit
+FileEnds w prior name limit Refuses (NotYet answered) = EndsRefused w prior name limit Refuses (NotYet answered)
+FileEnds w prior name limit Refuses (BadPcap answered fault) = EndsRefused w prior name limit Refuses (BadPcap answered fault)
+FileEnds w prior name limit Refuses OutOfMemory = EndsHungry w prior name
+FileEnds w prior name limit Refuses _ = ⊥
 
--- the text is no scenario of the form; the bytes are no capture of the form
+-- the text is no scenario of the form
 abbrev pub NoScenario : List ℕ → Type 0
 NoScenario text = (c : Copying) → IsScenario text c → ⊥
 
-abbrev pub NoCapture : List ℕ → Type 0
-NoCapture bytes = (records : List (List ℕ)) → PcapText bytes records → ⊥
+-- the answers with which a scenario's text and a capture's bytes are refused
+abbrev pub RefusesScenario : List ℕ → List ℕ → Status → Type 0
+RefusesScenario file text (NotYet answered) = (answered ≡ file) × NoScenario text
+RefusesScenario file text _ = ⊥
+
+abbrev pub RefusesCapture : List ℕ → List ℕ → Status → Type 0
+RefusesCapture name bytes (BadPcap answered fault) = (answered ≡ name) × HasFault bytes fault
+RefusesCapture name bytes _ = ⊥
 
 -- the file held this scenario
 pub record HasScenario (w : Seen) (file : List ℕ) (c : Copying) : Type 0 where
@@ -111,13 +118,13 @@ RunEnds w prior name report _ = ⊥
 pub record AfterScenario (w : Seen) (file : List ℕ) (status : Status) : Type 0 where
   pub c : Copying
   pub scenario : HasScenario w file c
-  pub capture : FileEnds w (a_read file (Ok tt) ∷ []) c.input most_capture NoCapture status
+  pub capture : FileEnds w (a_read file (Ok tt) ∷ []) c.input most_capture (RefusesCapture c.input) status
 
 -- a file ended the run before anything was written, and there is no report
 pub record Before (w : Seen) (file : List ℕ) (report : Option RunReport) (status : Status) : Type 0 where
   pub none : report ≡ None
   pub kept : Kept w
-  pub ends : FileEnds w [] file most_scenario NoScenario status ⊎ AfterScenario w file status
+  pub ends : FileEnds w [] file most_scenario (RefusesScenario file) status ⊎ AfterScenario w file status
 
 -- the run was made whole, and there is its report
 pub record After (w : Seen) (file : List ℕ) (report : Option RunReport) (status : Status) : Type 0 where

@@ -2,12 +2,14 @@
 use Rattle.std.specs.Prelude.{ℕ, ◌-◌, ◌<◌, ◌≤◌, ◌≡◌, ◌⊎◌, List, length, Some, IsSomeAnd}
 use Rattle.std.specs.FinMap.{get}
 use Rattle.sn_outside.specs.Contents.{Contents}
+use Rattle.sn_pcap.specs.declared.fault.PcapFault.{PcapFault}
+use Rattle.sn_pcap.specs.Faults.{HasFault}
 use Rattle.sn_pcap.specs.Grammar.{PcapText}
-use Rattle.sn_run.specs.Causes.{IsRunOf, IsCommand, NoScenario, NoCapture, most_scenario, most_capture}
+use Rattle.sn_run.specs.Causes.{IsRunOf, IsCommand, NoScenario, most_scenario, most_capture}
 use Rattle.sn_run.specs.Copying.{Copying, IsScenario}
 use Rattle.sn_run.specs.Reported.{most_read}
 use Rattle.sn_run.specs.declared.status.Status.{Status}
-use Rattle.sn_run.specs.declared.status.Status.TheVariants.{Drained, RoundsUsed, BadWords, NotYet, ReadFault, TooLong, WriteFault, OutOfMemory}
+use Rattle.sn_run.specs.declared.status.Status.TheVariants.{Drained, RoundsUsed, BadWords, NotYet, BadPcap, ReadFault, TooLong, WriteFault, OutOfMemory}
 
 -- the file holds these bytes, at most so many
 pub record Holds (m : Contents) (name : List ℕ) (limit : ℕ) (bytes : List ℕ) : Type 0 where
@@ -45,14 +47,14 @@ pub record CaptureOver (m : Contents) (words : List (List ℕ)) (name : List ℕ
   pub named : name ≡ c.input
   pub over : IsOver m c.input most_capture
 
--- the scenario's capture is none
-pub record CaptureRefused (m : Contents) (words : List (List ℕ)) (name : List ℕ) : Type 0 where
+-- the scenario's capture has this fault
+pub record CaptureFaulty (m : Contents) (words : List (List ℕ)) (name : List ℕ) (fault : PcapFault) : Type 0 where
   pub c : Copying
   pub scenario : ScenarioHeld m words c
   pub named : name ≡ c.input
   pub bytes : List ℕ
   pub holds : Holds m c.input most_capture bytes
-  pub refused : NoCapture bytes
+  pub faulty : HasFault bytes fault
 
 -- scenario and capture are there, and the run leaves so many records
 pub record RunHeld (m : Contents) (words : List (List ℕ)) (left : ℕ) : Type 0 where
@@ -68,7 +70,8 @@ pub record RunHeld (m : Contents) (words : List (List ℕ)) (left : ℕ) : Type 
 abbrev pub Expected : Contents → List (List ℕ) → Status → Type 0
 Expected m words BadWords = IsCommand words → ⊥
 Expected m words (TooLong name) = ScenarioOver m words name ⊎ CaptureOver m words name
-Expected m words (NotYet name) = ScenarioRefused m words name ⊎ CaptureRefused m words name
+Expected m words (NotYet name) = ScenarioRefused m words name
+Expected m words (BadPcap name fault) = CaptureFaulty m words name fault
 Expected m words Drained = RunHeld m words 0
 Expected m words (RoundsUsed left) = RunHeld m words left × (0 < left)
 Expected m words _ = ⊥

@@ -24,9 +24,9 @@ IsUnread Long name status = IsOrHungry (TooLong name) status
 IsUnread NoMemory name status = status ≡ OutOfMemory
 
 -- a file ended the run in this step, with no file changed
-pub record StepEnds (w : Seen) (name : List ℕ) (limit : ℕ) (Refused : List ℕ → Type 0) (status : Status) : Type 0 where
+pub record StepEnds (w : Seen) (name : List ℕ) (limit : ℕ) (Refuses : List ℕ → Status → Type 0) (status : Status) : Type 0 where
   pub kept : Kept w
-  pub ends : FileEnds w [] name limit Refused status
+  pub ends : FileEnds w [] name limit Refuses status
 
 -- one read gave the text of this scenario
 pub record GaveScenario (w : Seen) (file : List ℕ) (c : Copying) : Type 0 where

@@ -1,8 +1,17 @@
 -- The text that is printed for each answer. Every line ends with a line feed.
 use Rattle.std.specs.Prelude.{ℕ, List, [], ◌∷◌, ◌++◌, codes}
 use Rattle.std.specs.Fmt.{decimal}
+use Rattle.sn_pcap.specs.declared.fault.PcapFault.{PcapFault}
+use Rattle.sn_pcap.specs.declared.fault.PcapFault.TheVariants.{ShortHeader, BadMagic, BadVersion, CutRecord}
 use Rattle.sn_run.specs.declared.status.Status.{Status}
-use Rattle.sn_run.specs.declared.status.Status.TheVariants.{Drained, RoundsUsed, BadWords, NotYet, ReadFault, TooLong, WriteFault, PrintFault, OutOfMemory}
+use Rattle.sn_run.specs.declared.status.Status.TheVariants.{Drained, RoundsUsed, BadWords, NotYet, BadPcap, ReadFault, TooLong, WriteFault, PrintFault, OutOfMemory}
+
+-- the word for a capture's fault, with the number of a cut record
+abbrev pub fault_text : PcapFault → List ℕ
+fault_text ShortHeader = codes "short-header"
+fault_text BadMagic = codes "bad-magic"
+fault_text BadVersion = codes "bad-version"
+fault_text (CutRecord nth) = codes "cut-record " ++ decimal nth
 
 -- words, what they speak of, and the line's end
 abbrev pub text_line : List ℕ → List ℕ → List ℕ
@@ -14,6 +23,7 @@ text_of Drained = text_line (codes "status drained") []
 text_of (RoundsUsed left) = text_line (codes "status rounds-used ") (decimal left)
 text_of BadWords = text_line (codes "usage: snabbrt run FILE, check FILE, actions FILE WORKER, load N") []
 text_of (NotYet name) = text_line (codes "not yet ") name
+text_of (BadPcap name fault) = text_line (codes "capture ") (name ++ (32 ∷ fault_text fault))
 text_of (ReadFault name) = text_line (codes "cannot read ") name
 text_of (TooLong name) = text_line (codes "too long ") name
 text_of (WriteFault name) = text_line (codes "cannot write ") name

@@ -1,7 +1,7 @@
 //! The files that a run reads.
 ghost use Rattle.sn_pcap.specs.Grammar.{PcapText};
 ghost use Rattle.sn_pcap.specs.Places.{payloads_of};
-ghost use Rattle.sn_run.specs.Causes.{most_scenario, most_capture, NoScenario, NoCapture};
+ghost use Rattle.sn_run.specs.Causes.{most_scenario, most_capture, RefusesScenario, RefusesCapture};
 ghost use Rattle.sn_run.specs.Copying.{Copying, IsScenario};
 ghost use Rattle.sn_run.specs.Seen.{seen, ReadGave, ReadRefused};
 ghost use Rattle.sn_run.specs.Steps.{IsOrHungry, IsUnread, StepEnds, GaveScenario, GaveCapture};
@@ -91,7 +91,7 @@ pub(crate) fn read_scenario<F: Files>(
     files: &mut F,
 ) -> Result<CopyRun, Refusal>
     ensures ok { IfOk result (GaveScenario (seen F.tells (F.contents files.old) (F.contents files.new) (F.calls files.old) (F.calls files.new) (F.faults files.old) (F.faults files.new)) file) }
-    ensures err { IfErr result (λ refusal. StepEnds (seen F.tells (F.contents files.old) (F.contents files.new) (F.calls files.old) (F.calls files.new) (F.faults files.old) (F.faults files.new)) file most_scenario NoScenario refusal.status) }
+    ensures err { IfErr result (λ refusal. StepEnds (seen F.tells (F.contents files.old) (F.contents files.new) (F.calls files.old) (F.calls files.new) (F.faults files.old) (F.faults files.new)) file most_scenario (RefusesScenario file) refusal.status) }
     ensures text { IfErr result (λ refusal. refusal.text.items ≡ text_of refusal.status) }
 {
     let text = match read_whole(alloc, &file, MOST_SCENARIO, files) {
@@ -110,15 +110,15 @@ pub(crate) fn read_scenario<F: Files>(
 /// The capture that a file holds.
 ///
 /// # Errors
-/// The answer that ends the run: the file was not read, is too long, or holds no capture of the
-/// form, or want of memory.
+/// The answer that ends the run: the file was not read, is too long, or holds no capture, or want
+/// of memory.
 pub(crate) fn read_capture<F: Files>(
     alloc: Global,
     name: FileName,
     files: &mut F,
 ) -> Result<Capture, Refusal>
     ensures ok { IfOk result (GaveCapture (seen F.tells (F.contents files.old) (F.contents files.new) (F.calls files.old) (F.calls files.new) (F.faults files.old) (F.faults files.new)) name) }
-    ensures err { IfErr result (λ refusal. StepEnds (seen F.tells (F.contents files.old) (F.contents files.new) (F.calls files.old) (F.calls files.new) (F.faults files.old) (F.faults files.new)) name most_capture NoCapture refusal.status) }
+    ensures err { IfErr result (λ refusal. StepEnds (seen F.tells (F.contents files.old) (F.contents files.new) (F.calls files.old) (F.calls files.new) (F.faults files.old) (F.faults files.new)) name most_capture (RefusesCapture name) refusal.status) }
     ensures text { IfErr result (λ refusal. refusal.text.items ≡ text_of refusal.status) }
 {
     let bytes = match read_whole(alloc, &name, MOST_CAPTURE, files) {
@@ -127,6 +127,6 @@ pub(crate) fn read_capture<F: Files>(
     };
     match Capture::open(bytes) {
         Ok(capture) => Ok(capture),
-        Err(_) => Err(refusal_of(alloc, Status::NotYet(name))),
+        Err(fault) => Err(refusal_of(alloc, Status::BadPcap(name, fault))),
     }
 }

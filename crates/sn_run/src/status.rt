@@ -4,6 +4,7 @@ ghost use Rattle.std.specs.Prelude.{◌≡◌};
 
 use crate::Report;
 use sn_names::FileName;
+use sn_pcap::PcapFault;
 
 /// What became of the command.
 #[derive(Debug, Drop)]
@@ -14,8 +15,10 @@ pub enum Status {
     RoundsUsed(u64),
     /// The words are no command.
     BadWords,
-    /// The scenario or the capture isn't of the one form that runs so far.
+    /// The scenario isn't of the one form that runs so far.
     NotYet(FileName),
+    /// The file is no capture, and this is its first fault.
+    BadPcap(FileName, PcapFault),
     /// The file was not read: the count of faults rose.
     ReadFault(FileName),
     /// The file has more bytes than are read of its kind.
@@ -40,6 +43,7 @@ impl Status {
             Status::ReadFault(_) | Status::TooLong(_) => 2,
             Status::WriteFault(_) | Status::PrintFault => 2,
             Status::NotYet(_) => 3,
+            Status::BadPcap(_, _) => 3,
             Status::RoundsUsed(_) => 4,
             Status::OutOfMemory => 5,
         }

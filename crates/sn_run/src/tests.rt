@@ -172,6 +172,34 @@ fn sink_fails_first(rt: HostRuntime) -> Result<(), Fail> {
     Ok(())
 }
 
+#[test]
+fn big_endian_capture(rt: HostRuntime) -> Result<(), Fail> {
+    let alloc = rt.alloc();
+    let mut big = Vec::from_slice(alloc, &[0xa1, 0xb2, 0x3c, 0x4d, 0, 2, 0, 4])?;
+    big.extend_from_slice(&[0; 16])?;
+    big.extend_from_slice(&[0, 0, 0, 7, 0, 0, 0, 8, 0, 0, 0, 3, 0, 0, 5, 0])?;
+    big.extend_from_slice(&[0, 1, 2])?;
+    let held = vec![in alloc; ("s", scenario(alloc, 10)?), ("in.pcap", big)]?;
+    let mut files = files(alloc, held, &[])?;
+    let (ended, _) = run(&rt, &["run", "s"], &mut files, &[])?;
+    assert!(rt; matches!(ended.status, Status::Drained));
+    let want = capture(alloc, &[3])?;
+    assert_eq!(rt;
+        files.bytes(&name(alloc, "out.pcap")?),
+        Some(want.as_slice())
+    );
+    Ok(())
+}
+
+#[test]
+fn cut_third_record(rt: HostRuntime) -> Result<(), Fail> {
+    let alloc = rt.alloc();
+    let mut cut = capture(alloc, &[60, 60, 1514])?;
+    cut.truncate(24 + 76 + 76 + 10);
+    let held = vec![in alloc; ("s", scenario(alloc, 10)?), ("in.pcap", cut)]?;
+    expect_refusal(&rt, held, &[], "capture in.pcap cut-record 3\n", 3)
+}
+
 /// Expects this text and exit status, and no file `out.pcap`.
 fn expect_refusal<R: Threads + Sync + Abort + AllocGlobal>(
     rt: &R,
@@ -201,7 +229,7 @@ fn refusals_name_their_file(rt: HostRuntime) -> Result<(), Fail> {
     let mut cut = capture(alloc, &[60])?;
     cut.truncate(99);
     let held = vec![in alloc; ("s", scenario(alloc, 2)?), ("in.pcap", cut)]?;
-    expect_refusal(&rt, held, &[], "not yet in.pcap\n", 3)?;
+    expect_refusal(&rt, held, &[], "capture in.pcap cut-record 1\n", 3)?;
     let held = vec![in alloc;
         ("s", scenario(alloc, 2)?),
         ("in.pcap", capture(alloc, &[60])?),

@@ -1,10 +1,11 @@
 //! The texts of answers.
-ghost use Rattle.sn_run.specs.Texts.{text_line, text_of};
+ghost use Rattle.sn_run.specs.Texts.{fault_text, text_line, text_of};
 ghost use Rattle.std.specs.Fmt.{decimal};
 ghost use Rattle.std.specs.Prelude.{List, [], ◌∷◌, ◌++◌, IfOk, ◌≡◌};
 
 use crate::Status;
-use sn_names::push_decimal;
+use sn_names::{FileName, push_decimal};
+use sn_pcap::PcapFault;
 use std::alloc::{AllocError, Global};
 
 /// What is printed where the words are no command.
@@ -31,6 +32,35 @@ fn number_of(alloc: Global, words: &[u8], n: u64) -> Result<Vec<u8>, AllocError>
     Ok(text)
 }
 
+/// The word for a capture's fault, with the number of a cut record.
+fn fault_word(alloc: Global, fault: PcapFault) -> Result<Vec<u8>, AllocError>
+    ensures { IfOk result (λ text. text.items ≡ fault_text fault) }
+{
+    match fault {
+        PcapFault::ShortHeader => Vec::from_slice(alloc, b"short-header"),
+        PcapFault::BadMagic => Vec::from_slice(alloc, b"bad-magic"),
+        PcapFault::BadVersion => Vec::from_slice(alloc, b"bad-version"),
+        PcapFault::CutRecord { nth } => {
+            let mut word = Vec::from_slice(alloc, b"cut-record ")?;
+            push_decimal(&mut word, nth)?;
+            Ok(word)
+        }
+    }
+}
+
+/// The line for a file that is no capture.
+fn capture_text(alloc: Global, name: &FileName, fault: PcapFault) -> Result<Vec<u8>, AllocError>
+    ensures { IfOk result (λ text. text.items ≡ text_of (Status.BadPcap name.now fault)) }
+{
+    let word = fault_word(alloc, fault)?;
+    let mut text = Vec::from_slice(alloc, b"capture ")?;
+    text.extend_from_slice(name.as_str().as_bytes())?;
+    text.push(b' ')?;
+    text.extend_from_slice(&word)?;
+    text.push(b'\n')?;
+    Ok(text)
+}
+
 /// The text of an answer.
 ///
 /// # Errors
@@ -43,6 +73,7 @@ pub(crate) fn status_text(alloc: Global, status: &Status) -> Result<Vec<u8>, All
         Status::RoundsUsed(left) => number_of(alloc, b"status rounds-used ", *left),
         Status::BadWords => Vec::from_slice(alloc, USAGE),
         Status::NotYet(name) => line_of(alloc, b"not yet ", name.as_str().as_bytes()),
+        Status::BadPcap(name, fault) => capture_text(alloc, name, *fault),
         Status::ReadFault(name) => line_of(alloc, b"cannot read ", name.as_str().as_bytes()),
         Status::TooLong(name) => line_of(alloc, b"too long ", name.as_str().as_bytes()),
         Status::WriteFault(name) => line_of(alloc, b"cannot write ", name.as_str().as_bytes()),
