@@ -41,11 +41,13 @@ lane_of core kept i lane at =
 
 -- the facts of each lane and of each seat
 pub record LanesKept (core : Core) : Type 0 where
+  pub many : length core.lanes ≤ 16
   pub queues : All QueueIsWhole core.lanes
   pub closes : All ClosesWhereDown core.lanes
   pub ends : All (JoinsSeats (length core.seats)) core.lanes
 
 pub record SeatsKept (core : Core) : Type 0 where
+  pub many : length core.seats ≤ 16
   pub heard : All HeardWasSaid core.seats
   pub tables : All (λ seat. length seat.held ≡ pool core) core.seats
 
@@ -68,6 +70,8 @@ kept_from old new before now kept hands links agree lanes seats =
       };
       shape = record {
         size = omega (arith, kept.shape.size, hands.size);
+        lanes = lanes.many;
+        seats = seats.many;
         ends = lanes.ends;
         tables = seats.tables;
         total = total_after old new before now hands kept.shape.total;
@@ -79,6 +83,7 @@ kept_from old new before now kept hands links agree lanes seats =
 pub lanes_after : (core : Core) (i : ℕ) (lane new : LaneState) → IsKept core → slice_get core.lanes i ≡ Some lane → LaneKept new → new.tx_seat ≡ lane.tx_seat → new.rx_seat ≡ lane.rx_seat → LanesKept (with_lane core i new)
 lanes_after core i lane new kept at lane_kept tx_is rx_is =
     record {
+      many = omega (arith, kept.shape.lanes, length-set core.lanes i new);
       queues = All-set QueueIsWhole core.lanes i new lane_kept.whole kept.sound.queues;
       closes = All-set ClosesWhereDown core.lanes i new lane_kept.closes kept.sound.closes;
       ends = All-set (JoinsSeats (length core.seats)) core.lanes i new
@@ -88,36 +93,38 @@ lanes_after core i lane new kept at lane_kept tx_is rx_is =
     }
 
 pub lanes_same : (core : Core) → IsKept core → LanesKept core
-lanes_same core kept = record { queues = kept.sound.queues; closes = kept.sound.closes; ends = kept.shape.ends }
+lanes_same core kept = record { many = kept.shape.lanes; queues = kept.sound.queues; closes = kept.sound.closes; ends = kept.shape.ends }
 
 pub seats_same : (core : Core) → IsKept core → SeatsKept core
-seats_same core kept = record { heard = kept.sound.heard; tables = kept.shape.tables }
+seats_same core kept = record { many = kept.shape.seats; heard = kept.sound.heard; tables = kept.shape.tables }
 
 -- the same after another write of a seat or a cell
 pub lanes_beside_seat : (core : Core) (s : ℕ) (new : SeatState) → LanesKept core → LanesKept (with_seat core s new)
 lanes_beside_seat core s new lanes =
     record {
+      many = lanes.many;
       queues = lanes.queues;
       closes = lanes.closes;
       ends = subst (λ n. All (JoinsSeats n) core.lanes) (sym (length-set core.seats s new)) lanes.ends;
     }
 
 pub lanes_beside_cell : (core : Core) (c : ℕ) (cell : Cell) → LanesKept core → LanesKept (with_cell core c cell)
-lanes_beside_cell core c cell lanes = record { queues = lanes.queues; closes = lanes.closes; ends = lanes.ends }
+lanes_beside_cell core c cell lanes = record { many = lanes.many; queues = lanes.queues; closes = lanes.closes; ends = lanes.ends }
 
 pub seats_after : (core : Core) (s : ℕ) (seat new : SeatState) → slice_get core.seats s ≡ Some seat → length new.held ≡ length seat.held → HeardWasSaid new → SeatsKept core → SeatsKept (with_seat core s new)
 seats_after core s seat new there size heard seats =
     record {
+      many = omega (arith, seats.many, length-set core.seats s new);
       heard = All-set HeardWasSaid core.seats s new heard seats.heard;
       tables = All-set (λ x. length x.held ≡ pool core) core.seats s new (size ∙ All_at (λ x. length x.held ≡ pool core) core.seats s seat seats.tables there) seats.tables;
     }
 
 pub seats_beside_lane : (core : Core) (i : ℕ) (new : LaneState) → SeatsKept core → SeatsKept (with_lane core i new)
-seats_beside_lane core i new seats = record { heard = seats.heard; tables = seats.tables }
+seats_beside_lane core i new seats = record { many = seats.many; heard = seats.heard; tables = seats.tables }
 
 pub seats_beside_cell : (core : Core) (c : ℕ) (cell : Cell) → SeatsKept core → SeatsKept (with_cell core c cell)
 seats_beside_cell core c cell seats =
-    record { heard = seats.heard; tables = subst (λ n. All (λ x. length x.held ≡ n) core.seats) (sym (length-set core.cells c cell)) seats.tables }
+    record { many = seats.many; heard = seats.heard; tables = subst (λ n. All (λ x. length x.held ≡ n) core.seats) (sym (length-set core.cells c cell)) seats.tables }
 
 -- a packet that no seat holds is laid nowhere and under no claim
 pub unlaid_if : (core : Core) (n : ℕ) → Links core → ((s : ℕ) (seat : SeatState) → slice_get core.seats s ≡ Some seat → turn_of n seat ≡ None) → (k : ℕ) → laid_at core k ≡ Some n → ⊥

@@ -115,8 +115,8 @@ ones first zero = refl
 ones first (suc count) =
     omega (arith, sum_by-cons (cell_weight (λ packet. 1)) (opening_cell first) (map opening_cell (range_with_len (first + 1) count)), cell_weight-full (λ packet. 1) (record { number = first; turn = 0 }), ones (first + 1) count)
 
-pub opened_kept : (count seats : ℕ) (lanes : List (ℕ × ℕ)) → count ≤ 16384 → All (IsPairOfSeats seats) lanes → IsKept (opened count seats lanes)
-opened_kept count seats lanes size ends =
+pub opened_kept : (count seats : ℕ) (lanes : List (ℕ × ℕ)) → count ≤ 16384 → seats ≤ 16 → length lanes ≤ 16 → All (IsPairOfSeats seats) lanes → IsKept (opened count seats lanes)
+opened_kept count seats lanes size few_seats few_lanes ends =
     record {
       sound = record {
         stands = record {
@@ -144,6 +144,8 @@ opened_kept count seats lanes size ends =
       };
       shape = record {
         size = omega (arith, length_cells 0 count);
+        lanes = omega (arith, few_lanes, length-map lanes (λ ends. free_lane ends.0 ends.1));
+        seats = omega (arith, few_seats, length-replicate seats (idle_seat count));
         ends = subst (λ n. All (JoinsSeats n) core.lanes) (sym (length-replicate seats (idle_seat count))) (ends_joined seats lanes ends);
         tables = All-replicate (λ seat. length seat.held ≡ pool core) seats (idle_seat count) (length-replicate count None ∙ sym (length_cells 0 count));
         total = length_is (standing core) ∙ sym (weigh_of (λ packet. 1) core) ∙ opened_weight (λ packet. 1) count seats lanes ∙ ones 0 count ∙ sym (length_cells 0 count);

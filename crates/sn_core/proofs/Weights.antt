@@ -177,3 +177,26 @@ idle_pool_weight f pool = go 0 pool where
   go : (first count : ℕ) → sum_by f (packets_from first (replicate count None)) ≡ 0
   go first zero = refl
   go first (suc count) = go (suc first) count
+
+-- the weights, opened
+pub cell_weight_of : (f : Packet → ℕ) (cell : Cell) → cell_weight f cell ≡ sum_by f (cell_packets cell)
+unfolding cell_weight
+cell_weight_of f cell = refl
+
+pub lane_weight_of : (f : Packet → ℕ) (lane : LaneState) → lane_weight f lane ≡ sum_by f (flat_map place_packets lane.queue)
+unfolding lane_weight
+lane_weight_of f lane = refl
+
+pub seat_weight_of : (f : Packet → ℕ) (seat : SeatState) → seat_weight f seat ≡ sum_by f (packets_from 0 seat.held)
+unfolding seat_weight
+seat_weight_of f seat = refl
+
+-- what a slot weighs
+abbrev pub slot_value : (Packet → ℕ) → ℕ → Option ℕ → ℕ
+slot_value f number None = 0
+slot_value f number (Some turn) = f (record { number = number; turn = turn })
+
+pub slot_weight_of : (f : Packet → ℕ) (number : ℕ) (slot : Option ℕ) → slot_weight f number slot ≡ slot_value f number slot
+unfolding slot_weight
+slot_weight_of f number None = refl
+slot_weight_of f number (Some turn) = refl

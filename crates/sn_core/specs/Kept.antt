@@ -15,6 +15,8 @@ pub record JoinsSeats (seats : ℕ) (lane : LaneState) : Type 0 where
 
 pub record HasShape (core : Core) : Type 0 where
   pub size : pool core ≤ 16384
+  pub lanes : length core.lanes ≤ 16
+  pub seats : length core.seats ≤ 16
   pub ends : All (JoinsSeats (length core.seats)) core.lanes
   pub tables : All (λ seat. length seat.held ≡ pool core) core.seats
   pub total : length (standing core) ≡ pool core

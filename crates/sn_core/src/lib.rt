@@ -20,6 +20,9 @@ mod steps;
 mod owners;
 mod state;
 
+#[cfg(test)]
+mod tests;
+
 pub use events::{Event, Owner, Side, Stepped};
 pub use state::CoreState;
 pub use parts::{Cell, Field, Packet, Phase, Transfer, MAX_TURN};
