@@ -10,7 +10,6 @@ abbrev events : List Event
 events =
     TakeClaim 0 0 ∷ TakeOut 0 ∷ TakeDone 0 ∷ Attach 0 Tx ∷ Lay 0 0 ∷ Publish 0 ∷ Attach 0 Rx ∷ Take 0 ∷ Release 0 ∷ []
 
-
 all_done : done_count (opened 2 2 ((0, 1) ∷ [])) events ≡ 9
 all_done = refl
 

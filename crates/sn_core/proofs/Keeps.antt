@@ -87,9 +87,9 @@ lanes_after core i lane new kept at lane_kept tx_is rx_is =
       queues = All-set QueueIsWhole core.lanes i new lane_kept.whole kept.sound.queues;
       closes = All-set ClosesWhereDown core.lanes i new lane_kept.closes kept.sound.closes;
       ends = All-set (JoinsSeats (length core.seats)) core.lanes i new
-        (let joins = All_at (JoinsSeats (length core.seats)) core.lanes i lane kept.shape.ends at in
+          (let joins = All_at (JoinsSeats (length core.seats)) core.lanes i lane kept.shape.ends at in
           record { tx = omega (arith, tx_is, joins.tx); rx = omega (arith, rx_is, joins.rx) })
-        kept.shape.ends;
+          kept.shape.ends;
     }
 
 pub lanes_same : (core : Core) → IsKept core → LanesKept core
@@ -130,8 +130,8 @@ seats_beside_cell core c cell seats =
 pub unlaid_if : (core : Core) (n : ℕ) → Links core → ((s : ℕ) (seat : SeatState) → slice_get core.seats s ≡ Some seat → turn_of n seat ≡ None) → (k : ℕ) → laid_at core k ≡ Some n → ⊥
 unlaid_if core n links nobody k laid =
     at_lane core k n laid ⊥ (λ lane at is.
-      turn_found core lane.tx_seat n (fresh_some (turn_at core lane.tx_seat n) (links.fresh k n lane at is)) ⊥
-      (λ seat turn there held. none-some turn (sym (nobody lane.tx_seat seat there) ∙ held)))
+    turn_found core lane.tx_seat n (fresh_some (turn_at core lane.tx_seat n) (links.fresh k n lane at is)) ⊥
+    (λ seat turn there held. none-some turn (sym (nobody lane.tx_seat seat there) ∙ held)))
 
 pub unclaimed_if : (core : Core) (n : ℕ) → Links core → ((s : ℕ) (seat : SeatState) → slice_get core.seats s ≡ Some seat → turn_of n seat ≡ None) → (a : ℕ) (transfer : Transfer) → pending_at core a ≡ Some transfer → transfer.packet ≢ n
 unclaimed_if core n links nobody a transfer pending e =
@@ -146,16 +146,17 @@ claims_same core s seat new old transfer links there pending same gives turn_is 
       given = λ g. subst (λ o. IsTrue (is_fresh o)) (sym turn_now) (links.given s old old_at (gives g));
       unlaid = λ i laid. links.unclaimed i s transfer.packet old laid old_at same;
     } where
-  old_at : pending_at core s ≡ Some old
-  old_at = rw there pending
-  turn_now : turn_of transfer.packet new ≡ turn_at core s old.packet
-  turn_now = turn_is ∙ ap (λ n. turn_of n seat) (sym same) ∙ rw there refl
+      old_at : pending_at core s ≡ Some old
+      old_at = rw there pending
+
+      turn_now : turn_of transfer.packet new ≡ turn_at core s old.packet
+      turn_now = turn_is ∙ ap (λ n. turn_of n seat) (sym same) ∙ rw there refl
 
 -- a lane changes alone, and no packet with it
 pub keeps_lane : (core : Core) (i : ℕ) (lane new : LaneState) → IsKept core → slice_get core.lanes i ≡ Some lane → LaneKept new → new.tx_seat ≡ lane.tx_seat → new.rx_seat ≡ lane.rx_seat → new.put ≡ lane.put → ((f : Packet → ℕ) → lane_weight f new ≡ lane_weight f lane) → Links (with_lane core i new) → IsKept (with_lane core i new)
 keeps_lane core i lane new kept at lane_kept tx_is rx_is put_is weight links =
     kept_from core (with_lane core i new) (record { number = 0; turn = 0 }) (record { number = 0; turn = 0 }) kept
     (moves core (with_lane core i new) refl
-      (λ f. omega (arith, weigh-with_lane f core i lane new at, weight f))
-      (omega (arith, sum_by-written put_of core.lanes i lane new at, put_is)))
+    (λ f. omega (arith, weigh-with_lane f core i lane new at, weight f))
+    (omega (arith, sum_by-written put_of core.lanes i lane new at, put_is)))
     links (agree_lane core i new (agree_of core kept)) (lanes_after core i lane new kept at lane_kept tx_is rx_is) (seats_beside_lane core i new (seats_same core kept))

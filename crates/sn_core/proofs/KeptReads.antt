@@ -64,8 +64,8 @@ given_fresh core kept s turn seat transfer there pending phase held =
     let at : pending_at core s ≡ Some transfer = rw there pending in
     let turn_is : turn_at core s transfer.packet ≡ Some turn = rw there held in
     fresh_below (turn_at core s transfer.packet) turn turn_is (kept.unworn.given s transfer at (gives transfer.phase phase)) where
-  gives : (phase : Phase) → is_phase GivenIn phase ≡ true → Gives phase
-  gives Taking e = cc
-  gives TakenOut e = cc
-  gives Giving e = tt
-  gives GivenIn e = tt
+      gives : (phase : Phase) → is_phase GivenIn phase ≡ true → Gives phase
+      gives Taking e = cc
+      gives TakenOut e = cc
+      gives Giving e = tt
+      gives GivenIn e = tt

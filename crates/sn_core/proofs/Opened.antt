@@ -41,9 +41,9 @@ in_cells : (n first count : ℕ) → first ≤ n → n < first + count → sum_b
 in_cells n first zero ge lt = absurd (omega arith)
 in_cells n first (suc count) ge lt =
     elim (cases_eq first n) [
-      inl e ↦ omega (arith, sum_by-cons (cell_weight (is_one n)) (opening_cell first) (map opening_cell (range_with_len (first + 1) count)), here n first e, out_of_cells n (first + 1) count (inl (omega arith)))
-    | inr differ ↦ (let ne : first ≢ n = differ in
-        omega (arith, sum_by-cons (cell_weight (is_one n)) (opening_cell first) (map opening_cell (range_with_len (first + 1) count)), elsewhere n first differ, in_cells n (first + 1) count (omega arith) (omega arith)))
+      | inl e ↦ omega (arith, sum_by-cons (cell_weight (is_one n)) (opening_cell first) (map opening_cell (range_with_len (first + 1) count)), here n first e, out_of_cells n (first + 1) count (inl (omega arith)))
+      | inr differ ↦ (let ne : first ≢ n = differ in
+          omega (arith, sum_by-cons (cell_weight (is_one n)) (opening_cell first) (map opening_cell (range_with_len (first + 1) count)), elsewhere n first differ, in_cells n (first + 1) count (omega arith) (omega arith)))
     ]
 
 length_cells : (first count : ℕ) → length (map opening_cell (range_with_len first count)) ≡ count
@@ -155,11 +155,14 @@ opened_kept count seats lanes size few_seats few_lanes ends =
         given = λ s transfer e gives. absurd (nothing_pending core idle s transfer e);
       };
     } where
-  core : Core
-  core = opened count seats lanes
-  free : All (λ lane. lane.laid ≡ None) (map (λ e. free_lane e.0 e.1) lanes)
-  free = free_at (λ lane. lane.laid ≡ None) lanes (λ a b. refl)
-  idle : All (λ seat. seat.pending ≡ None) (replicate seats (idle_seat count))
-  idle = All-replicate (λ seat. seat.pending ≡ None) seats (idle_seat count) refl
-  nothing : (i n : ℕ) → laid_at (opened count seats lanes) i ≡ Some n → ⊥
-  nothing = nothing_laid (opened count seats lanes) free
+      core : Core
+      core = opened count seats lanes
+
+      free : All (λ lane. lane.laid ≡ None) (map (λ e. free_lane e.0 e.1) lanes)
+      free = free_at (λ lane. lane.laid ≡ None) lanes (λ a b. refl)
+
+      idle : All (λ seat. seat.pending ≡ None) (replicate seats (idle_seat count))
+      idle = All-replicate (λ seat. seat.pending ≡ None) seats (idle_seat count) refl
+
+      nothing : (i n : ℕ) → laid_at (opened count seats lanes) i ≡ Some n → ⊥
+      nothing = nothing_laid (opened count seats lanes) free

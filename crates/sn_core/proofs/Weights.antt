@@ -46,7 +46,7 @@ weigh_is f core =
       sum_by-append f (flat_map queued_packets core.lanes) (flat_map held_packets core.seats),
       sum_by-flat_map f cell_packets core.cells,
       sum_by-flat_map f queued_packets core.lanes,
-      sum_by-flat_map f held_packets core.seats
+      sum_by-flat_map f held_packets core.seats,
     )
 
 -- one part is written
@@ -94,9 +94,9 @@ pub lane_weight-published : (f : Packet → ℕ) (lane : LaneState) (packets : L
 unfolding lane_weight
 lane_weight-published f lane packets =
     rw (flat_map-append place_packets lane.queue (map Some packets), all_filled packets, sum_by-append f (flat_map place_packets lane.queue) packets) refl where
-  all_filled : (ps : List Packet) → flat_map place_packets (map Some ps) ≡ ps
-  all_filled [] = refl
-  all_filled (p ∷ ps) = ap (λ qs. p ∷ qs) (all_filled ps)
+      all_filled : (ps : List Packet) → flat_map place_packets (map Some ps) ≡ ps
+      all_filled [] = refl
+      all_filled (p ∷ ps) = ap (λ qs. p ∷ qs) (all_filled ps)
 
 pub lane_weight-released : (f : Packet → ℕ) (lane : LaneState) → is_unreleased lane.queue ≡ true → lane_weight f (released lane) ≡ lane_weight f lane
 unfolding lane_weight

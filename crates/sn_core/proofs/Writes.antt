@@ -28,8 +28,8 @@ get_other (z ∷ xs) (suc i) (suc k) y differ = get_other xs i k y (λ e. differ
 pub get_written : {X : Type 0} (xs : List X) (i k : ℕ) (x y z : X) → slice_get xs i ≡ Some x → slice_get (slice_set xs i y) k ≡ Some z → ((k ≡ i) × (z ≡ y)) ⊎ ((k ≢ i) × (slice_get xs k ≡ Some z))
 get_written xs i k x y z at after =
     elim (cases_eq k i) [
-      inl same ↦ inl (same, (let e : slice_get (slice_set xs i y) i ≡ Some z = subst (λ j. slice_get (slice_set xs i y) j ≡ Some z) same after in let f = get_same xs i x y at in cc))
-    | inr differ ↦ inr (differ, sym (get_other xs i k y differ) ∙ after)
+      | inl same ↦ inl (same, (let e : slice_get (slice_set xs i y) i ≡ Some z = subst (λ j. slice_get (slice_set xs i y) j ≡ Some z) same after in let f = get_same xs i x y at in cc))
+      | inr differ ↦ inr (differ, sym (get_other xs i k y differ) ∙ after)
     ]
 
 -- two elements together weigh no more than all; `light` weighs nothing

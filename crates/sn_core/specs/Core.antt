@@ -159,7 +159,7 @@ take_claim core s c = do
   cell ← slice_get core.cells c
   packet ← full_packet cell
   when (is_none seat.pending) (with_seat (with_cell core c (Busy s)) s
-    (with_pending (Some (record { phase = Taking; cell = c; packet = packet.number })) (holding packet seat)))
+      (with_pending (Some (record { phase = Taking; cell = c; packet = packet.number })) (holding packet seat)))
 
 -- the transfer goes on from the one phase to the other
 abbrev pub go_on : Core → ℕ → Phase → Phase → Option Core
@@ -179,7 +179,7 @@ give_claim core s c number = do
   seat ← slice_get core.seats s
   cell ← slice_get core.cells c
   when (is_empty_cell cell && is_none seat.pending && may_go core number seat) (with_seat (with_cell core c (Busy s)) s
-    (with_pending (Some (record { phase = Giving; cell = c; packet = number })) seat))
+      (with_pending (Some (record { phase = Giving; cell = c; packet = number })) seat))
 
 -- the packet of the transfer moves from the seat to the cell
 abbrev pub give_done : Core → ℕ → Option Core
@@ -188,7 +188,7 @@ give_done core s = do
   transfer ← seat.pending
   turn ← turn_of transfer.packet seat
   when (is_phase GivenIn transfer.phase) (with_seat (with_cell core transfer.cell (Full (handed_over transfer.packet turn))) s
-    (with_pending None (letting_go transfer.packet seat)))
+      (with_pending None (letting_go transfer.packet seat)))
 
 abbrev pub restart : Core → ℕ → Option Core
 restart core s = do
@@ -244,7 +244,9 @@ opening_cell number = Full (record { number = number; turn = 0 })
 abbrev pub opened : ℕ → ℕ → List (ℕ × ℕ) → Core
 opened pool seats lanes =
     record {
-      cells = map opening_cell (range_with_len 0 pool); lanes = map (λ ends. free_lane ends.0 ends.1) lanes; seats = replicate seats (idle_seat pool);
+      cells = map opening_cell (range_with_len 0 pool);
+      lanes = map (λ ends. free_lane ends.0 ends.1) lanes;
+      seats = replicate seats (idle_seat pool);
     }
 
 -- a lane joins two different seats

@@ -12,17 +12,25 @@ pub record LaneState : Type 0 where
   pub rx_seat : ℕ
   pub tx : Field
   pub rx : Field
-  pub put : ℕ -- the next position to put
-  pub read : ℕ -- the next position in the word that the receiver writes
-  pub queue : List (Option Packet) -- the published packets from `read` on, with an emptied place as None
-  pub laid : Option ℕ -- the packet that lies in the next place, unpublished
-  pub closes : Option Side -- which end closes
+  pub put : ℕ  -- the next position to put
+  pub read : ℕ  -- the next position in the word that the receiver writes
+  pub queue : List (Option Packet)  -- the published packets from `read` on, with an emptied place as None
+  pub laid : Option ℕ  -- the packet that lies in the next place, unpublished
+  pub closes : Option Side  -- which end closes
 
 -- a lane that nobody has used
 abbrev pub free_lane : ℕ → ℕ → LaneState
 free_lane tx_seat rx_seat =
     record {
-      tx_seat = tx_seat; rx_seat = rx_seat; tx = Absent; rx = Absent; put = 0; read = 0; queue = []; laid = None; closes = None;
+      tx_seat = tx_seat;
+      rx_seat = rx_seat;
+      tx = Absent;
+      rx = Absent;
+      put = 0;
+      read = 0;
+      queue = [];
+      laid = None;
+      closes = None;
     }
 
 abbrev pub seat_of : Side → LaneState → ℕ

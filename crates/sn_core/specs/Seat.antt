@@ -8,8 +8,8 @@ use Rattle.sn_core.specs.declared.parts.TheConstants.{MAX_TURN}
 
 -- the state of one seat
 pub record SeatState : Type 0 where
-  pub held : List (Option ℕ) -- for each number of the pool the packet's turn, where the seat holds it
-  pub pending : Option Transfer -- the transfer with a cell that isn't done
+  pub held : List (Option ℕ)  -- for each number of the pool the packet's turn, where the seat holds it
+  pub pending : Option Transfer  -- the transfer with a cell that isn't done
   pub heard : ℕ
   pub said : ℕ
 

@@ -34,8 +34,15 @@ impl Model for Lane {
     ghost Value = { LaneState };
 
     ghost view = { λ lane. record {
-        tx_seat = lane.tx_seat; rx_seat = lane.rx_seat; tx = lane.tx; rx = lane.rx;
-        put = lane.put; read = lane.read; queue = lane.queue.items; laid = lane.laid; closes = lane.closes;
+      tx_seat = lane.tx_seat;
+      rx_seat = lane.rx_seat;
+      tx = lane.tx;
+      rx = lane.rx;
+      put = lane.put;
+      read = lane.read;
+      queue = lane.queue.items;
+      laid = lane.laid;
+      closes = lane.closes;
     } };
 
     ghost invariant = { λ lane. 1024 ≤ deque_capacity lane.queue };

@@ -8,21 +8,20 @@
 // - `state`: the machine as callers see it
 #![tactic(auto)]
 
-mod events;
-mod parts;
-mod lane;
-mod seat;
-mod machine;
-mod lane_events;
-mod seat_events;
 mod cell_events;
-mod steps;
+mod events;
+mod lane;
+mod lane_events;
+mod machine;
 mod owners;
+mod parts;
+mod seat;
+mod seat_events;
 mod state;
-
+mod steps;
 #[cfg(test)]
 mod tests;
 
 pub use events::{Event, Owner, Side, Stepped};
+pub use parts::{Cell, Field, MAX_TURN, Packet, Phase, Transfer};
 pub use state::CoreState;
-pub use parts::{Cell, Field, Packet, Phase, Transfer, MAX_TURN};

@@ -2,7 +2,6 @@
 ghost use Rattle.std.specs.Prelude.{◌≡◌, ◌<◌, ◌≤◌, length, IfOk, IsTrue, is_some, Some, None, slice_get, Bool, true, map, replicate};
 ghost use Rattle.sn_core.specs.Core.{Core, opened, opening_cell, may_go, lays, take_first};
 ghost use Rattle.sn_core.specs.Seat.{SeatState, idle_seat, is_fresh, turn_of};
-
 ghost use Rattle.std.specs.List.{list_any, range_with_len};
 ghost use Rattle.sn_core.specs.Lane.{LaneState, first_packet, free_lane};
 ghost use Rattle.sn_core.specs.Kept.{IsKept};
@@ -10,7 +9,7 @@ ghost use Rattle.sn_core.specs.State.{core_of};
 
 use crate::events::Side;
 use crate::lane::Lane;
-use crate::parts::{Cell, Packet, MAX_TURN};
+use crate::parts::{Cell, MAX_TURN, Packet};
 use crate::seat::Seat;
 use std::alloc::{AllocError, Global};
 
@@ -24,7 +23,12 @@ pub struct Machine {
 
 impl Machine {
     /// Cell i holds packet i at turn 0, lanes are free, and seats hold nothing.
-    pub fn open(alloc: Global, pool: u32, seats: u32, lanes: &[(u32, u32)]) -> Result<Machine, AllocError>
+    pub fn open(
+        alloc: Global,
+        pool: u32,
+        seats: u32,
+        lanes: &[(u32, u32)],
+    ) -> Result<Machine, AllocError>
         ensures { IfOk result (λ machine. core_of machine ≡ opened pool seats lanes.now) }
     {
         Ok(Machine {

@@ -22,7 +22,10 @@ impl Model for Seat {
     ghost Value = { SeatState };
 
     ghost view = { λ seat. record {
-        held = seat.held.items; pending = seat.pending; heard = seat.heard; said = seat.said;
+      held = seat.held.items;
+      pending = seat.pending;
+      heard = seat.heard;
+      said = seat.said;
     } };
 }
 

@@ -88,7 +88,10 @@ impl Machine {
         }
         match self.seats[s].pending() {
             Some(transfer) if transfer.phase == from => {
-                self.seats[s].set_pending(Some(Transfer { phase: to, ..transfer }));
+                self.seats[s].set_pending(Some(Transfer {
+                    phase: to,
+                    ..transfer
+                }));
                 Stepped::Done
             }
             _ => Stepped::NotEnabled,

@@ -2,7 +2,6 @@
 ghost use Rattle.std.specs.Prelude.{◌≡◌, ◌≢◌, ℕ, ◌<◌, ◌≤◌, length, IfOk, All, is_some, if◌then◌else◌};
 ghost use Rattle.sn_core.specs.Core.{Core, IsStep, opened, pool, all_after, done_count, after, next, IsPairOfSeats, owned_packets};
 ghost use Rattle.sn_core.specs.Sound.{IsSound, count_of};
-
 ghost use Rattle.sn_core.specs.declared.events.Owner.{Owner};
 
 use crate::events::{Event, Owner, Stepped};
@@ -31,7 +30,12 @@ impl Model for CoreState {
 impl CoreState {
     /// A core with as many packets and seats, and a lane for each pair of a transmitting and a receiving seat: cell i holds
     /// packet i at turn 0, lanes are free and empty, and seats hold nothing. It has all the memory that it will need.
-    pub fn open(alloc: Global, pool: u32, seats: u32, lanes: &[(u32, u32)]) -> Result<CoreState, AllocError>
+    pub fn open(
+        alloc: Global,
+        pool: u32,
+        seats: u32,
+        lanes: &[(u32, u32)],
+    ) -> Result<CoreState, AllocError>
         requires pool_least { 1 ≤ pool }
         requires pool_most { pool ≤ 16384 }
         requires seats_least { 1 ≤ seats }
