@@ -1,7 +1,7 @@
 -- Packets that move, and one that is handed over: what stands once still does, and turns still bound every position.
-use Rattle.std.proofs.Common.{◌≡◌, ◌≢◌, ℕ, ◌+◌, ◌*◌, ◌^◌, ◌<◌, ◌≤◌, Bool, true, false, Option, List, [], ◌∷◌, ◌++◌, length, Some, None, refl, sym, ap, ◌∙◌, subst, arith, slice_get, cond, eqb, ltb, ◌⊎◌, inl, inr}
-use Rattle.std.specs.List.{sum_by, All, count_by}
-use Rattle.std.proofs.lemmas.Bool.{ltb-true, le-ltb, lt-ltb, cases_lt}
+use Rattle.std.proofs.Common.{◌≡◌, ℕ, ◌+◌, ◌*◌, ◌≤◌, List, [], ◌∷◌, length, refl, ap, arith, cond, eqb, ltb, inl, inr}
+use Rattle.std.specs.List.{sum_by, All}
+use Rattle.std.proofs.lemmas.Bool.{le-ltb, lt-ltb, cases_lt}
 use Rattle.std.proofs.lemmas.List.Sums.{sum_by-cons, sum_by-le, get_or-le-sum_by}
 use Rattle.std.proofs.lemmas.List.Elements.{All-nil, All-cons, All-head, All-tail}
 use Rattle.sn_core.specs.declared.parts.TheConstants.{MAX_TURN}
@@ -9,7 +9,6 @@ use Rattle.sn_core.specs.declared.parts.Packet.{Packet}
 use Rattle.sn_core.specs.Lane.{LaneState}
 use Rattle.sn_core.specs.Core.{Core, pool, standing}
 use Rattle.sn_core.specs.Sound.{StandsOnce, TurnsBound, count_of}
-use Rattle.sn_core.specs.Kept.{HasShape}
 use Rattle.sn_core.proofs.Weights.{weigh, weigh_of}
 use Rattle.sn_core.proofs.Standing.{is_one, count_is}
 

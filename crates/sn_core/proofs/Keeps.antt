@@ -1,7 +1,6 @@
 -- The machine's facts from their parts, and what several events share.
-use Rattle.std.proofs.Common.{◌≡◌, ◌≢◌, ℕ, ◌+◌, ◌<◌, ◌≤◌, Bool, true, false, Option, List, [], ◌∷◌, length, Some, None, is_some, IsSome, IsTrue, refl, sym, ap, ◌∙◌, subst, arith, slice_get, slice_set, ◌⊎◌, inl, inr}
-use Rattle.std.specs.List.{All, sum_by}
-use Rattle.std.proofs.lemmas.Bool.{false≢true}
+use Rattle.std.proofs.Common.{◌≡◌, ◌≢◌, ℕ, ◌≤◌, length, Some, None, IsSome, IsTrue, refl, sym, ap, ◌∙◌, subst, arith, slice_get}
+use Rattle.std.specs.List.{All}
 use Rattle.std.proofs.lemmas.List.{length-set}
 use Rattle.std.proofs.lemmas.Option.{none-some}
 use Rattle.std.proofs.lemmas.List.Elements.{All-set}
@@ -10,13 +9,13 @@ use Rattle.sn_core.specs.declared.parts.Cell.{Cell}
 use Rattle.sn_core.specs.declared.parts.Transfer.{Transfer}
 use Rattle.sn_core.specs.Lane.{LaneState}
 use Rattle.sn_core.specs.Seat.{SeatState, turn_of, is_fresh}
-use Rattle.sn_core.specs.Core.{Core, pool, standing, with_lane, with_seat, with_cell}
-use Rattle.sn_core.specs.Sound.{laid_at, turn_at, pending_at, pending_cell, StandsOnce, LaidStands, ClaimsAgree, QueueIsWhole, ClosesWhereDown, HeardWasSaid, TurnsBound, IsSound}
-use Rattle.sn_core.specs.Kept.{JoinsSeats, HasShape, Gives, IsUnworn, IsKept}
-use Rattle.sn_core.proofs.Weights.{weigh, weigh-with_lane, lane_weight, All_at, sum_by-written}
+use Rattle.sn_core.specs.Core.{Core, pool, with_lane, with_seat, with_cell}
+use Rattle.sn_core.specs.Sound.{laid_at, turn_at, pending_at, QueueIsWhole, ClosesWhereDown, HeardWasSaid}
+use Rattle.sn_core.specs.Kept.{JoinsSeats, Gives, IsKept}
+use Rattle.sn_core.proofs.Weights.{weigh-with_lane, lane_weight, All_at, sum_by-written}
 use Rattle.sn_core.proofs.HandOvers.{HandsOver, moves, put_of, stands_after, total_after, turns_after}
 use Rattle.sn_core.proofs.LaneChanges.{LaneKept}
-use Rattle.sn_core.proofs.Links.{Links, Agree, Claims, links_lane, agree_lane, at_lane, turn_found, fresh_some}
+use Rattle.sn_core.proofs.Links.{Links, Agree, Claims, agree_lane, at_lane, turn_found, fresh_some}
 
 pub links_of : (core : Core) → IsKept core → Links core
 links_of core kept =

@@ -1,18 +1,18 @@
 -- Every event keeps the machine's facts.
-use Rattle.std.proofs.Common.{◌≡◌, ℕ, ◌≤◌, Bool, true, Option, List, [], ◌∷◌, Some, None, refl, sym, ap, ◌∙◌, subst, slice_get, arith, nat_le, is_some}
-use Rattle.std.specs.Prelude.{option_map, unwrap_or}
+use Rattle.std.proofs.Common.{◌≡◌, ◌≤◌, true, Option, Some, None, sym, subst, slice_get, arith, nat_le, is_some}
+use Rattle.std.specs.Prelude.{option_map}
 use Rattle.std.proofs.lemmas.Bool.{and_parts, leb-true}
 use Rattle.std.proofs.lemmas.Option.{same_Some}
-use Rattle.sn_core.specs.declared.events.Side.TheVariants.{Tx, Rx}
+use Rattle.sn_core.specs.declared.events.Side.TheVariants.{Rx}
 use Rattle.sn_core.specs.declared.events.Event.{Event}
 use Rattle.sn_core.specs.declared.events.Event.TheVariants.{Look, Attach, Detach, Reset, Take, Release, Lay, Publish, TakeBack, DrainTake, DrainRelease, TakeClaim, TakeOut, TakeDone, GiveClaim, GiveIn, GiveDone, Say, Hear, Stop, Restart}
 use Rattle.sn_core.specs.declared.events.Stepped.{Stepped}
 use Rattle.sn_core.specs.declared.events.Stepped.TheVariants.{Done, NotEnabled}
 use Rattle.sn_core.specs.declared.parts.Phase.{Phase}
 use Rattle.sn_core.specs.declared.parts.Phase.TheVariants.{Taking, TakenOut, Giving, GivenIn}
-use Rattle.sn_core.specs.Lane.{LaneState, is_up, is_side, is_unreleased, can_attach, attached, can_detach, detached, can_reset, was_reset, can_take, can_release, released, can_drain, can_drain_release, with_laid}
+use Rattle.sn_core.specs.Lane.{is_up, is_side, is_unreleased, can_attach, attached, can_detach, detached, can_reset, was_reset, can_take, can_release, released, can_drain, can_drain_release, with_laid}
 use Rattle.sn_core.specs.Seat.{SeatState}
-use Rattle.sn_core.specs.Core.{Core, after, next, all_after, is_phase, IsStep}
+use Rattle.sn_core.specs.Core.{Core, after, is_phase, IsStep}
 use Rattle.sn_core.specs.Sound.{HeardWasSaid}
 use Rattle.sn_core.specs.Kept.{Gives, IsKept}
 use Rattle.sn_core.proofs.Weights.{All_at}

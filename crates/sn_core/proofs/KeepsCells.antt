@@ -1,28 +1,25 @@
 -- Each event on a cell or on a seat alone keeps the machine's facts.
-use Rattle.std.proofs.Common.{◌≡◌, ◌≢◌, ℕ, ◌+◌, ◌<◌, ◌≤◌, Bool, true, false, not, ◌&&◌, Option, List, [], ◌∷◌, length, Some, None, is_some, is_none, IsSome, IsTrue, refl, sym, ap, ◌∙◌, subst, arith, slice_get, slice_set, nat_le, inl, inr}
+use Rattle.std.proofs.Common.{◌≡◌, ℕ, ◌<◌, ◌≤◌, true, ◌&&◌, Option, length, Some, None, is_none, IsSome, refl, ap, ◌∙◌, subst, arith, slice_get}
 use Rattle.std.specs.Prelude.{option_map}
-use Rattle.std.specs.List.{sum_by, list_any}
-use Rattle.std.proofs.lemmas.Bool.{and_parts, not-true, false≢true, cases_eq, leb-true, eq-eqb}
+use Rattle.std.proofs.lemmas.Bool.{and_parts}
 use Rattle.std.proofs.lemmas.List.{length-set}
 use Rattle.std.proofs.lemmas.Option.{none-some, same_Some, slice_get_past}
-use Rattle.sn_core.specs.declared.parts.TheConstants.{MAX_TURN}
 use Rattle.sn_core.specs.declared.parts.Packet.{Packet}
 use Rattle.sn_core.specs.declared.parts.Cell.{Cell}
 use Rattle.sn_core.specs.declared.parts.Cell.TheVariants.{Empty, Busy, Full}
 use Rattle.sn_core.specs.declared.parts.Phase.{Phase}
-use Rattle.sn_core.specs.declared.parts.Phase.TheVariants.{Taking, TakenOut, Giving, GivenIn}
+use Rattle.sn_core.specs.declared.parts.Phase.TheVariants.{Taking, Giving, GivenIn}
 use Rattle.sn_core.specs.declared.parts.Transfer.{Transfer}
-use Rattle.sn_core.specs.Lane.{LaneState}
-use Rattle.sn_core.specs.Seat.{SeatState, turn_of, holding, letting_go, with_pending, is_fresh, joined}
-use Rattle.sn_core.specs.Core.{Core, pool, with_lane, with_seat, with_cell, is_empty_cell, is_phase, may_go, handed_over}
+use Rattle.sn_core.specs.Seat.{SeatState, turn_of, holding, letting_go, with_pending, joined}
+use Rattle.sn_core.specs.Core.{Core, pool, with_seat, with_cell, is_empty_cell, is_phase, may_go, handed_over}
 use Rattle.sn_core.specs.Sound.{laid_at, turn_at, pending_at, HeardWasSaid}
 use Rattle.sn_core.specs.Kept.{Gives, IsKept}
-use Rattle.sn_core.proofs.Weights.{weigh, weigh-with_cell, weigh-with_seat, cell_weight-full, cell_weight-empty, cell_weight-busy, seat_weight, seat_weight-holding, seat_weight-letting_go, same_seat_weight, empty_slot, All_at}
+use Rattle.sn_core.proofs.Weights.{weigh-with_cell, weigh-with_seat, cell_weight-full, cell_weight-empty, cell_weight-busy, seat_weight-holding, seat_weight-letting_go, same_seat_weight, empty_slot, All_at}
 use Rattle.sn_core.proofs.Standing.{not_held_in_cell}
-use Rattle.sn_core.proofs.HandOvers.{HandsOver, moves, put_of}
+use Rattle.sn_core.proofs.HandOvers.{moves}
 use Rattle.sn_core.proofs.Writes.{turn_of-holding, turn_of-letting_go, turn_of-held}
-use Rattle.sn_core.proofs.Links.{Links, Agree, Claims, links_seat, links_cell, agree_seat, agree_claim, agree_done, held_by_one, fresh_some}
-use Rattle.sn_core.proofs.KeptReads.{cell_packet_in, table_is, held_in, given_fresh}
+use Rattle.sn_core.proofs.Links.{Claims, links_seat, links_cell, agree_seat, agree_claim, agree_done, held_by_one, fresh_some}
+use Rattle.sn_core.proofs.KeptReads.{cell_packet_in, table_is, given_fresh}
 use Rattle.sn_core.proofs.KeepsLanes.{may_go_fresh, may_go_unlaid}
 use Rattle.sn_core.proofs.Keeps.{links_of, agree_of, kept_from, lanes_same, lanes_beside_seat, lanes_beside_cell, seats_after, seats_same, seats_beside_cell, unlaid_if, unclaimed_if, claims_same}
 

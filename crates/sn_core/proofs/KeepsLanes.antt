@@ -1,30 +1,27 @@
 -- Each event on a lane keeps the machine's facts.
-use Rattle.std.proofs.Common.{◌≡◌, ◌≢◌, ℕ, ◌+◌, ◌<◌, ◌≤◌, Bool, true, false, not, ◌&&◌, Option, List, [], ◌∷◌, length, Some, None, is_some, is_none, IsSome, IsTrue, refl, sym, ap, ◌∙◌, subst, arith, slice_get, slice_set, nat_lt, ◌-◌, zero, suc, inl, inr}
-use Rattle.std.specs.List.{sum_by, list_any}
-use Rattle.std.proofs.lemmas.Bool.{and_parts, not-true, false≢true, cases_eq, ltb-true, or_parts, eq-eqb}
+use Rattle.std.proofs.Common.{◌≡◌, ℕ, ◌<◌, ◌≤◌, Bool, true, false, not, ◌&&◌, List, [], ◌∷◌, length, Some, None, is_some, is_none, refl, sym, ap, ◌∙◌, subst, arith, slice_get, nat_lt, ◌-◌, zero, suc, inl, inr}
+use Rattle.std.specs.List.{list_any}
+use Rattle.std.proofs.lemmas.Bool.{and_parts, not-true, false≢true, cases_eq, or_parts, eq-eqb}
 use Rattle.std.proofs.lemmas.List.Sums.{sum_by-cons}
 use Rattle.sn_core.proofs.Writes.{laid_at_same, laid_at_other, turn_of-holding, turn_of-letting_go}
 use Rattle.std.proofs.lemmas.List.{length-set}
-use Rattle.std.proofs.lemmas.Option.{none-some, same_Some}
+use Rattle.std.proofs.lemmas.Option.{none-some}
 use Rattle.sn_core.specs.declared.events.Side.{Side}
 use Rattle.sn_core.specs.declared.events.Side.TheVariants.{Tx, Rx}
-use Rattle.sn_core.specs.declared.parts.TheConstants.{MAX_TURN}
 use Rattle.sn_core.specs.declared.parts.Packet.{Packet}
 use Rattle.sn_core.specs.declared.parts.Field.{Field}
 use Rattle.sn_core.specs.declared.parts.Field.TheVariants.{Absent, Up, Gone}
-use Rattle.sn_core.specs.declared.parts.Transfer.{Transfer}
-use Rattle.sn_core.specs.Lane.{LaneState, seat_of, is_up, is_down, is_side, closed_by, with_field, is_unreleased, is_empty_queue, first_packet, can_attach, attached, can_detach, detached, can_reset, was_reset, can_take, taken, can_release, released, can_drain, can_drain_release, can_lay, with_laid, published}
+use Rattle.sn_core.specs.Lane.{LaneState, seat_of, is_up, is_down, is_side, closed_by, is_unreleased, is_empty_queue, first_packet, can_attach, attached, can_detach, detached, can_reset, was_reset, taken, released, can_lay, with_laid, published}
 use Rattle.sn_core.specs.Seat.{SeatState, turn_of, holding, letting_go, is_fresh}
-use Rattle.sn_core.specs.Core.{Core, pool, is_number, is_of_packet, with_lane, with_seat, lays, claims, may_go, may_lay, handed_over, take_first, lay, publish, lane_step}
-use Rattle.sn_core.specs.Sound.{laid_at, turn_at, pending_at, HeardWasSaid}
+use Rattle.sn_core.specs.Core.{Core, is_number, is_of_packet, with_lane, with_seat, lays, claims, may_go, may_lay, handed_over}
+use Rattle.sn_core.specs.Sound.{laid_at, HeardWasSaid}
 use Rattle.sn_core.specs.Kept.{IsKept}
-use Rattle.sn_core.proofs.Weights.{weigh, weigh-with_lane, weigh-with_seat, lane_weight, lane_weight-taken, lane_weight-released, lane_weight-published, seat_weight, seat_weight-holding, seat_weight-letting_go, same_lane_weight, sum_by-written, All_at}
+use Rattle.sn_core.proofs.Weights.{weigh-with_lane, weigh-with_seat, lane_weight-taken, lane_weight-released, lane_weight-published, seat_weight-holding, seat_weight-letting_go, same_lane_weight, sum_by-written, All_at}
 use Rattle.sn_core.proofs.Standing.{not_held_in_lane}
-use Rattle.sn_core.proofs.HandOvers.{HandsOver, moves, put_of}
-use Rattle.sn_core.proofs.LaneChanges.{LaneKept, attached_kept, detached_kept, reset_kept, taken_kept, can_take_parts, can_drain_parts, released_kept, laid_kept, taken_back_kept, published_kept}
+use Rattle.sn_core.proofs.HandOvers.{moves, put_of}
+use Rattle.sn_core.proofs.LaneChanges.{LaneKept, attached_kept, detached_kept, reset_kept, released_kept, laid_kept, taken_back_kept, published_kept}
 use Rattle.sn_core.proofs.Links.{Links, links_lane, links_lay, links_seat, agree_lane, agree_seat, at_lane}
-use Rattle.sn_core.proofs.KeptReads.{first_in, table_is, held_in, laid_fresh}
-use Rattle.sn_core.proofs.StepCases.{lane_step_cases, take_first_cases, lay_cases, publish_cases}
+use Rattle.sn_core.proofs.KeptReads.{first_in, table_is, laid_fresh}
 use Rattle.sn_core.proofs.Keeps.{links_of, agree_of, lane_of, kept_from, lanes_after, lanes_beside_seat, seats_after, seats_same, seats_beside_lane, unlaid_if, unclaimed_if, claims_same, keeps_lane}
 
 is_up_up : (field : Field) → is_up field ≡ true → field ≡ Up

@@ -1,18 +1,17 @@
 -- What is laid and what is claimed: how each change of a lane, a seat or a cell keeps those facts.
-use Rattle.std.proofs.Common.{◌≡◌, ◌≢◌, ℕ, ◌+◌, ◌<◌, ◌≤◌, Bool, true, false, not, Option, List, [], ◌∷◌, length, Some, None, is_some, IsSome, IsTrue, refl, sym, ap, ◌∙◌, subst, arith, slice_get, slice_set, ◌⊎◌, inl, inr}
+use Rattle.std.proofs.Common.{◌≡◌, ◌≢◌, ℕ, true, Option, Some, None, is_some, IsSome, IsTrue, refl, sym, ap, ◌∙◌, subst, arith, slice_get, slice_set, ◌⊎◌, inl, inr}
 use Rattle.std.specs.Prelude.{option_and_then, option_map}
 use Rattle.std.proofs.lemmas.Bool.{cases_eq, false≢true}
 use Rattle.std.proofs.lemmas.Option.{same_Some, none-some}
-use Rattle.sn_core.specs.declared.parts.Packet.{Packet}
 use Rattle.sn_core.specs.declared.parts.Field.TheVariants.{Up}
 use Rattle.sn_core.specs.declared.parts.Cell.{Cell}
-use Rattle.sn_core.specs.declared.parts.Cell.TheVariants.{Empty, Busy, Full}
+use Rattle.sn_core.specs.declared.parts.Cell.TheVariants.{Busy}
 use Rattle.sn_core.specs.declared.parts.Transfer.{Transfer}
 use Rattle.sn_core.specs.Lane.{LaneState, with_laid}
-use Rattle.sn_core.specs.Seat.{SeatState, turn_of, is_fresh, held_packets, idle_seat}
+use Rattle.sn_core.specs.Seat.{SeatState, turn_of, is_fresh, idle_seat}
 use Rattle.sn_core.specs.Core.{Core, with_lane, with_seat, with_cell}
-use Rattle.sn_core.specs.Sound.{laid_at, turn_at, pending_at, pending_cell, StandsOnce, LaidStands, ClaimsAgree}
-use Rattle.sn_core.specs.Kept.{Gives, IsUnworn}
+use Rattle.sn_core.specs.Sound.{laid_at, turn_at, pending_at, pending_cell, StandsOnce}
+use Rattle.sn_core.specs.Kept.{Gives}
 use Rattle.sn_core.proofs.Weights.{weigh_is, seat_weight}
 use Rattle.sn_core.proofs.Standing.{is_one, counted_at_most_once, seat_weight-held, idle_weight}
 use Rattle.sn_core.proofs.Writes.{get_same, get_other, get_written, two-le-sum_by, laid_at_same, laid_at_other, turn_at_same, turn_at_other, pending_at_same, pending_at_other}

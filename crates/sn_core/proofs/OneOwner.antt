@@ -1,13 +1,12 @@
 -- The one owner of a number: where it is found it stands once, it is found somewhere, and nowhere else.
-use Rattle.std.proofs.Common.{◌≡◌, ◌≢◌, ℕ, ◌+◌, ◌<◌, ◌≤◌, Bool, true, false, Option, List, [], ◌∷◌, length, Some, None, is_some, refl, sym, ap, ◌∙◌, subst, arith, slice_get, get_or, zero, suc, cond, eqb, ltb, ◌⊎◌, ⊎_elim, inl, inr}
+use Rattle.std.proofs.Common.{◌≡◌, ℕ, ◌+◌, ◌<◌, ◌≤◌, Bool, true, false, Option, List, [], ◌∷◌, length, Some, None, is_some, refl, sym, ap, ◌∙◌, subst, arith, slice_get, get_or, suc, cond, eqb, ltb, ⊎_elim, inl, inr}
 use Rattle.std.specs.Prelude.{position}
 use Rattle.std.specs.List.{flat_map, list_any, sum_by, position_or_len}
-use Rattle.std.proofs.lemmas.Bool.{cases_eq, cases_Bool, eq-eqb, ne_eqb, eqb-true, ltb-false, false≢true, or_cases, or_parts}
+use Rattle.std.proofs.lemmas.Bool.{cases_eq, cases_Bool, ne_eqb, eqb-true, ltb-false, false≢true, or_cases, or_parts}
 use Rattle.std.proofs.lemmas.Option.{none-some, slice_get-get_or, slice_get_within, get_or_from_slice_get}
-use Rattle.std.proofs.lemmas.List.Sums.{sum_by-cons, sum_by-append, fails_before_first}
+use Rattle.std.proofs.lemmas.List.Sums.{sum_by-cons, fails_before_first}
 use Rattle.std.proofs.lemmas.List.Quantifiers.{position-Some}
 use Rattle.sn_core.specs.declared.events.Owner.{Owner}
-use Rattle.sn_core.specs.declared.events.Owner.TheVariants as Owner
 use Rattle.sn_core.specs.declared.parts.Packet.{Packet}
 use Rattle.sn_core.specs.declared.parts.Cell.{Cell}
 use Rattle.sn_core.specs.declared.parts.Cell.TheVariants.{Empty, Busy, Full}
@@ -15,7 +14,7 @@ use Rattle.sn_core.specs.Lane.{LaneState, free_lane}
 use Rattle.sn_core.specs.Seat.{SeatState, packets_from, held_packets, joined, turn_of, idle_seat}
 use Rattle.sn_core.specs.Core.{Core, pool, cell_packets, place_packets, queued_packets, found_at, owned_packets, cell_has, place_has, lane_has, seat_has}
 use Rattle.sn_core.specs.Sound.{StandsOnce, count_of}
-use Rattle.sn_core.proofs.Weights.{weigh, weigh_is, cell_weight, lane_weight, seat_weight, cell_weight_of, lane_weight_of, seat_weight_of, cell_weight-full, cell_weight-empty, free_lane_weight, slot_weight_of, packets_from-cons, slot_weight, at-le-sum_by}
+use Rattle.sn_core.proofs.Weights.{weigh_is, cell_weight, lane_weight, seat_weight, cell_weight_of, lane_weight_of, seat_weight_of, cell_weight-full, cell_weight-empty, free_lane_weight, slot_weight_of, packets_from-cons, slot_weight, at-le-sum_by}
 use Rattle.sn_core.proofs.Standing.{is_one, is_one-at, none_if, count_is, counted_at_most_once, seat_weight-held, idle_weight}
 use Rattle.sn_core.proofs.Writes.{two-le-sum_by}
 

@@ -1,23 +1,21 @@
 -- The core as it opens has the machine's facts.
-use Rattle.std.proofs.Common.{◌≡◌, ◌≢◌, ℕ, ◌+◌, ◌*◌, ◌^◌, ◌<◌, ◌≤◌, Bool, true, false, Option, List, [], ◌∷◌, ◌++◌, length, map, replicate, Some, None, is_some, IsSome, IsTrue, refl, sym, ap, ◌∙◌, subst, arith, slice_get, zero, suc, add-one, inl, inr, cond, eqb, ◌⊎◌, ⊎_elim}
-use Rattle.std.specs.Prelude.{option_map, option_and_then}
+use Rattle.std.proofs.Common.{◌≡◌, ◌≢◌, ℕ, ◌+◌, ◌*◌, ◌^◌, ◌<◌, ◌≤◌, Option, List, [], ◌∷◌, length, map, replicate, Some, None, IsSome, refl, sym, ap, ◌∙◌, subst, arith, slice_get, zero, suc, inl, inr, cond, ◌⊎◌, ⊎_elim}
+use Rattle.std.specs.Prelude.{option_map}
 use Rattle.std.specs.List.{range_with_len, sum_by, All}
-use Rattle.std.proofs.lemmas.Bool.{eq-eqb, ne_eqb, cases_eq, cases_lt, false≢true}
+use Rattle.std.proofs.lemmas.Bool.{eq-eqb, ne_eqb, cases_eq, false≢true}
 use Rattle.std.proofs.lemmas.Option.{none-some}
 use Rattle.std.proofs.lemmas.List.{length-replicate, length-map}
 use Rattle.std.proofs.lemmas.List.Sums.{sum_by-cons}
 use Rattle.std.proofs.lemmas.List.Folds.{sum_by-replicate}
 use Rattle.std.proofs.lemmas.List.Elements.{All-replicate, All-nil, All-cons, All-head, All-tail}
-use Rattle.sn_core.specs.declared.parts.TheConstants.{MAX_TURN}
 use Rattle.sn_core.specs.declared.parts.Packet.{Packet}
-use Rattle.sn_core.specs.declared.parts.Cell.{Cell}
-use Rattle.sn_core.specs.declared.parts.Cell.TheVariants.{Empty, Busy, Full}
+use Rattle.sn_core.specs.declared.parts.Cell.TheVariants.{Busy}
 use Rattle.sn_core.specs.declared.parts.Transfer.{Transfer}
 use Rattle.sn_core.specs.Lane.{LaneState, free_lane}
-use Rattle.sn_core.specs.Seat.{SeatState, idle_seat, turn_of}
+use Rattle.sn_core.specs.Seat.{idle_seat}
 use Rattle.sn_core.specs.Core.{Core, opened, opening_cell, pool, standing, IsPairOfSeats}
-use Rattle.sn_core.specs.Sound.{laid_at, pending_at, pending_cell, StandsOnce, TurnsBound, QueueIsWhole, ClosesWhereDown, HeardWasSaid}
-use Rattle.sn_core.specs.Kept.{IsKept, JoinsSeats, HasShape}
+use Rattle.sn_core.specs.Sound.{laid_at, pending_at, pending_cell, QueueIsWhole, ClosesWhereDown, HeardWasSaid}
+use Rattle.sn_core.specs.Kept.{IsKept, JoinsSeats}
 use Rattle.sn_core.proofs.Weights.{weigh, weigh_is, weigh_of, cell_weight, lane_weight, seat_weight, cell_weight-full, All_at, free_lane_weight, idle_pool_weight}
 use Rattle.sn_core.proofs.Standing.{is_one, count_is}
 use Rattle.sn_core.proofs.HandOvers.{too_high, not_too_high, all_bounded, length_is}

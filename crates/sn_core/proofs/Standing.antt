@@ -1,11 +1,10 @@
 -- Where a packet stands once, it stands nowhere else: what the counts say of single cells, lanes and seats.
-use Rattle.std.proofs.Common.{◌≡◌, ◌≢◌, ℕ, ◌+◌, ◌<◌, ◌≤◌, Bool, true, false, Option, List, [], ◌∷◌, ◌++◌, length, Some, None, refl, sym, ap, ◌∙◌, subst, arith, slice_get, cond, eqb, ◌⊎◌, inl, inr}
+use Rattle.std.proofs.Common.{◌≡◌, ℕ, ◌<◌, ◌≤◌, Option, Some, None, refl, sym, ap, arith, slice_get, cond, eqb, inl, inr}
 use Rattle.std.proofs.lemmas.Bool.{eq-eqb, cases_lt}
 use Rattle.sn_core.specs.declared.parts.Packet.{Packet}
-use Rattle.sn_core.specs.declared.parts.Cell.{Cell}
 use Rattle.sn_core.specs.declared.parts.Cell.TheVariants.{Full}
-use Rattle.sn_core.specs.Lane.{LaneState, first_packet, taken}
-use Rattle.sn_core.specs.Seat.{SeatState, turn_of, letting_go, idle_seat}
+use Rattle.sn_core.specs.Lane.{LaneState, first_packet}
+use Rattle.sn_core.specs.Seat.{SeatState, turn_of, idle_seat}
 use Rattle.sn_core.specs.Core.{Core, pool, standing}
 use Rattle.sn_core.specs.Sound.{StandsOnce, count_of}
 use Rattle.sn_core.proofs.Weights.{weigh, weigh_of, weigh_is, cell_weight, lane_weight, seat_weight, at-le-sum_by, cell_weight-full, lane_weight-taken, seat_weight-letting_go, idle_seat_weight}

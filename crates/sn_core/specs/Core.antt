@@ -1,5 +1,5 @@
 -- The core: its state, the state after each event, and after a list of events.
-use Rattle.std.specs.Prelude.{◌≡◌, ◌≢◌, ◌<◌, ℕ, zero, ◌+◌, Bool, true, false, not, ◌&&◌, ◌||◌, ◌==◌, option_map, replicate, if◌then◌else◌, Option, Some, None, is_some, is_none, unwrap_or, option_and_then, List, [], ◌∷◌, ◌++◌, map, length, slice_get, slice_set, nat_le, suc}
+use Rattle.std.specs.Prelude.{◌≡◌, ◌≢◌, ◌<◌, ℕ, ◌+◌, Bool, true, false, not, ◌&&◌, ◌||◌, ◌==◌, option_map, replicate, if◌then◌else◌, Option, Some, None, is_some, is_none, unwrap_or, option_and_then, List, [], ◌∷◌, ◌++◌, map, length, slice_get, slice_set, nat_le}
 use Rattle.std.specs.List.{flat_map, list_any, range_with_len}
 use Rattle.sn_core.specs.declared.events.Side.{Side}
 use Rattle.sn_core.specs.declared.events.Side.TheVariants.{Tx, Rx}
@@ -8,7 +8,6 @@ use Rattle.sn_core.specs.declared.events.Event.TheVariants.{Look, Attach, Detach
 use Rattle.sn_core.specs.declared.events.Stepped.{Stepped}
 use Rattle.sn_core.specs.declared.events.Stepped.TheVariants.{Done, NotEnabled}
 use Rattle.sn_core.specs.declared.events.Owner.{Owner}
-use Rattle.sn_core.specs.declared.events.Owner.TheVariants as Owner
 use Rattle.sn_core.specs.declared.parts.Packet.{Packet}
 use Rattle.sn_core.specs.declared.parts.Cell.{Cell}
 use Rattle.sn_core.specs.declared.parts.Cell.TheVariants.{Empty, Busy, Full}

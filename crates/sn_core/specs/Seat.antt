@@ -1,8 +1,6 @@
 -- One seat: its state, and what events do to it.
-use Rattle.std.specs.Prelude.{ℕ, ◌+◌, Bool, true, false, Option, Some, None, is_some, is_none, option_and_then, List, [], ◌∷◌, slice_get, slice_set, nat_lt, suc, replicate}
+use Rattle.std.specs.Prelude.{ℕ, Bool, false, Option, Some, None, List, [], ◌∷◌, slice_get, slice_set, nat_lt, suc, replicate}
 use Rattle.sn_core.specs.declared.parts.Packet.{Packet}
-use Rattle.sn_core.specs.declared.parts.Phase.{Phase}
-use Rattle.sn_core.specs.declared.parts.Phase.TheVariants.{Taking, TakenOut, Giving, GivenIn}
 use Rattle.sn_core.specs.declared.parts.Transfer.{Transfer}
 use Rattle.sn_core.specs.declared.parts.TheConstants.{MAX_TURN}
 

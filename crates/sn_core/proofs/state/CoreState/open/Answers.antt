@@ -1,6 +1,5 @@
 use Rattle.std.proofs.Common.{sym, subst}
 use Rattle.sn_core.specs.Kept.{IsKept}
-use Rattle.sn_core.specs.State.{core_of}
 use Rattle.sn_core.proofs.Opened.{opened_kept}
 use Rattle.sn_core.proofs.state.CoreState.open.Goals as goal
 
