@@ -1,7 +1,8 @@
 // One lane between two seats: its ends, its queue, and what is laid.
 ghost use Rattle.std.specs.Prelude.{◌≡◌, ◌-◌, ◌+◌, ◌<◌, ◌≤◌, ◌^◌, length, IfOk, IsTrue, Some, None, [], ◌∷◌};
 ghost use Rattle.sn_core.specs.Lane.{LaneState, free_lane, seat_of, first_packet, is_unreleased, can_attach, attached, can_detach, detached, can_reset, was_reset, can_take, taken, can_release, released, can_drain, can_drain_release, can_lay, with_laid, published, is_side, with_field, is_down, is_up, is_half_done, field_of};
-ghost use Rattle.sn_core.specs.Core.{lays, has_end, is_in_use, lane_has, place_has};
+ghost use Rattle.sn_core.specs.Core.{lays, has_end, is_in_use};
+ghost use Rattle.sn_core.specs.Found.{lane_has, place_has};
 
 use crate::events::Side;
 use crate::parts::{Field, Packet};

@@ -1,7 +1,8 @@
 // One seat: the packets that it holds, its pending transfer, and the numbers that it said and heard.
 ghost use Rattle.std.specs.Prelude.{◌≡◌, ◌<◌, ◌≤◌, length, IfOk, Some, None, is_none};
 ghost use Rattle.sn_core.specs.Seat.{SeatState, idle_seat, turn_of, holding, letting_go, with_pending};
-ghost use Rattle.sn_core.specs.Core.{claims, seat_has};
+ghost use Rattle.sn_core.specs.Core.{claims};
+ghost use Rattle.sn_core.specs.Found.{seat_has};
 
 use crate::parts::{Packet, Phase, Transfer};
 use std::alloc::{AllocError, Global};

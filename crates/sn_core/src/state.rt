@@ -1,6 +1,7 @@
 // The core as callers see it: it opens, steps by events, and says who owns a packet.
 ghost use Rattle.std.specs.Prelude.{◌≡◌, ◌≢◌, ℕ, ◌<◌, ◌≤◌, length, IfOk, All, is_some, if◌then◌else◌};
-ghost use Rattle.sn_core.specs.Core.{Core, IsStep, opened, pool, all_after, done_count, after, next, IsPairOfSeats, owned_packets};
+ghost use Rattle.sn_core.specs.Core.{Core, IsStep, opened, pool, all_after, done_count, after, next, IsPairOfSeats};
+ghost use Rattle.sn_core.specs.Found.{owned_packets};
 ghost use Rattle.sn_core.specs.Sound.{IsSound, count_of};
 ghost use Rattle.sn_core.specs.declared.events.Owner.{Owner};
 
