@@ -37,6 +37,7 @@ abbrev pub place_packets : Option Packet → List Packet
 place_packets None = []
 place_packets (Some packet) = packet ∷ []
 
+-- the packets of a lane's queue
 abbrev pub queued_packets : LaneState → List Packet
 queued_packets lane = flat_map place_packets lane.queue
 
@@ -55,7 +56,7 @@ with_seat core s seat = record { cells = core.cells; lanes = core.lanes; seats =
 abbrev pub with_cell : Core → ℕ → Cell → Core
 with_cell core c cell = record { cells = slice_set core.cells c cell; lanes = core.lanes; seats = core.seats }
 
--- the state after, where the condition holds
+-- what is read must be there, and the condition must hold
 infixl 10 ◌>>=◌
 abbrev pub ◌>>=◌ : {A B : Type 0} → Option A → (A → Option B) → Option B
 o >>= f = option_and_then f o
@@ -96,16 +97,19 @@ claims number seat = is_of_packet number seat.pending
 abbrev pub may_go : Core → ℕ → SeatState → Bool
 may_go core number seat = is_fresh (turn_of number seat) && not (list_any (lays number) core.lanes)
 
+-- it may lay the packet at this lane: there is room, and the packet is under no claim
 abbrev pub may_lay : Core → ℕ → LaneState → SeatState → Bool
 may_lay core number lane seat = can_lay lane && may_go core number seat && not (claims number seat)
 
--- one end of the lane is this seat's, and is up or closes
+-- this end of the lane is the seat's, and is up or closes
 abbrev pub has_end : ℕ → Side → LaneState → Bool
 has_end s side lane = (seat_of side lane == s) && (is_up (field_of side lane) || is_side side lane.closes)
 
+-- the seat has an end there that is up or closes
 abbrev pub is_in_use : ℕ → LaneState → Bool
 is_in_use s lane = has_end s Tx lane || has_end s Rx lane
 
+-- what a cell holds
 abbrev pub full_packet : Cell → Option Packet
 full_packet Empty = None
 full_packet (Busy seat) = None
@@ -116,6 +120,7 @@ is_empty_cell Empty = true
 is_empty_cell (Busy seat) = false
 is_empty_cell (Full packet) = false
 
+-- the transfer has come to this phase
 abbrev pub is_phase : Phase → Phase → Bool
 is_phase Taking Taking = true
 is_phase TakenOut TakenOut = true
@@ -135,6 +140,7 @@ take_first core i side test = do
   seat ← slice_get core.seats (seat_of side lane)
   when (test lane) (with_seat (with_lane core i (taken lane)) (seat_of side lane) (holding packet seat))
 
+-- a packet of the transmitting seat is laid, and stays in its list
 abbrev pub lay : Core → ℕ → ℕ → Option Core
 lay core i number = do
   lane ← slice_get core.lanes i
@@ -166,12 +172,14 @@ go_on core s from to = do
   transfer ← seat.pending
   when (is_phase from transfer.phase) (with_seat core s (with_pending (Some (record transfer { phase = to })) seat))
 
+-- the cell is empty, and the transfer done
 abbrev pub take_done : Core → ℕ → Option Core
 take_done core s = do
   seat ← slice_get core.seats s
   transfer ← seat.pending
   when (is_phase TakenOut transfer.phase) (with_seat (with_cell core transfer.cell Empty) s (with_pending None seat))
 
+-- an empty cell is claimed for a packet that the seat holds
 abbrev pub give_claim : Core → ℕ → ℕ → ℕ → Option Core
 give_claim core s c number = do
   seat ← slice_get core.seats s
@@ -188,6 +196,7 @@ give_done core s = do
   when (is_phase GivenIn transfer.phase) (with_seat (with_cell core transfer.cell (Full (handed_over transfer.packet turn))) s
       (with_pending None (letting_go transfer.packet seat)))
 
+-- a seat may begin again where it has no end in use and nothing pending; nothing moves
 abbrev pub restart : Core → ℕ → Option Core
 restart core s = do
   seat ← slice_get core.seats s

@@ -25,6 +25,7 @@ held_packets seat = packets_from 0 seat.held
 abbrev pub idle_seat : ℕ → SeatState
 idle_seat pool = record { held = replicate pool None; pending = None; heard = 0; said = 0 }
 
+-- an entry of the table, if there is one
 abbrev pub joined : {A : Type 0} → Option (Option A) → Option A
 joined None = None
 joined (Some o) = o
@@ -41,6 +42,7 @@ holding packet seat = record seat { held = slice_set seat.held packet.number (So
 abbrev pub letting_go : ℕ → SeatState → SeatState
 letting_go number seat = record seat { held = slice_set seat.held number None }
 
+-- the seat has this transfer pending
 abbrev pub with_pending : Option Transfer → SeatState → SeatState
 with_pending pending seat = record seat { pending = pending }
 

@@ -55,7 +55,10 @@ impl Machine {
         if s >= self.seats.len() || cell as usize >= self.cells.len() {
             return Stepped::NotEnabled;
         }
-        if self.cells[cell as usize] != Cell::Empty || !self.seats[s].is_idle() || !self.may_go(packet, s) {
+        if self.cells[cell as usize] != Cell::Empty
+            || !self.seats[s].is_idle()
+            || !self.may_go(packet, s)
+        {
             return Stepped::NotEnabled;
         }
         self.cells[cell as usize] = Cell::Busy(seat);

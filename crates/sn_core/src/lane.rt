@@ -10,8 +10,11 @@ use std::alloc::{AllocError, Global};
 use std::collections::VecDeque;
 use std::marker::Model;
 
-/// The places of a lane's ring. One of them stays free.
+/// The places of a lane's ring.
 const PLACES: usize = 1024;
+
+/// The most packets in a queue, laid ones included: one place stays free.
+const MOST_QUEUED: u64 = 1023;
 
 /// A lane, with its queue in a ring of `PLACES` places.
 #[derive(Drop)]
@@ -234,7 +237,7 @@ impl Lane {
         requires { self.now.read ≤ self.now.put }
         ensures { result ≡ can_lay self.now }
     {
-        self.tx == Field::Up && self.laid.is_none() && self.put - self.read < 1023
+        self.tx == Field::Up && self.laid.is_none() && self.put - self.read < MOST_QUEUED
     }
 
     pub fn laid(&self) -> Option<u32>

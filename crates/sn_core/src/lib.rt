@@ -4,8 +4,11 @@
 // - `parts`: packets, the fields of a lane, cells and pending transfers
 // - `lane`: one lane between two seats
 // - `seat`: one seat, with what it holds
-// - `machine`: cells, lanes and seats together, and each event on them
-// - `state`: the machine as callers see it
+// - `machine`: cells, lanes and seats together
+// - `lane_events`, `cell_events`, `seat_events`: each event on the machine
+// - `steps`: one step of the machine, by its event
+// - `owners`: where a packet stands in the machine
+// - `state`: the core as callers see it
 #![tactic(auto)]
 
 mod cell_events;

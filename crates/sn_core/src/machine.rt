@@ -38,10 +38,12 @@ impl Machine {
         })
     }
 
-    /// Whether the seat may hand this packet over: it holds the packet, which isn't worn, and no lane has it laid.
+    /// Whether the seat may hand this packet over: it holds the packet, which isn't worn, and no
+    /// lane has it laid.
     pub fn may_go(&self, number: u32, seat: usize) -> bool
         requires { seat < length (core_of self.now).seats }
-        ensures { (state : SeatState) → slice_get (core_of self.now).seats seat ≡ Some state → result ≡ may_go (core_of self.now) number state }
+        ensures { (state : SeatState) → slice_get (core_of self.now).seats seat ≡ Some state →
+            result ≡ may_go (core_of self.now) number state }
     {
         self.is_fresh(number, seat) && !self.is_laid(number)
     }
@@ -49,7 +51,8 @@ impl Machine {
     /// Whether the seat holds the packet, and it isn't worn.
     fn is_fresh(&self, number: u32, seat: usize) -> bool
         requires { seat < length (core_of self.now).seats }
-        ensures { (state : SeatState) → slice_get (core_of self.now).seats seat ≡ Some state → result ≡ is_fresh (turn_of number state) }
+        ensures { (state : SeatState) → slice_get (core_of self.now).seats seat ≡ Some state →
+            result ≡ is_fresh (turn_of number state) }
     {
         match self.seats[seat].turn(number) {
             Some(turn) => turn < MAX_TURN,
@@ -68,8 +71,10 @@ impl Machine {
     pub fn move_first(&mut self, lane: usize, side: Side)
         requires kept { IsKept (core_of self.old) }
         requires lane_in { lane < length (core_of self.old).lanes }
-        ensures { (test : LaneState → Bool) (state : LaneState) → slice_get (core_of self.old).lanes lane ≡ Some state →
-            IsTrue (is_some (first_packet state.queue)) → test state ≡ true → take_first (core_of self.old) lane side test ≡ Some (core_of self.new) }
+        ensures { (test : LaneState → Bool) (state : LaneState) →
+            slice_get (core_of self.old).lanes lane ≡ Some state →
+            IsTrue (is_some (first_packet state.queue)) → test state ≡ true →
+            take_first (core_of self.old) lane side test ≡ Some (core_of self.new) }
     {
         if let Some(packet) = self.lanes[lane].first() {
             let seat = self.lanes[lane].seat(side) as usize;

@@ -8,7 +8,8 @@ use crate::parts::{Packet, Phase, Transfer};
 use std::alloc::{AllocError, Global};
 use std::marker::Model;
 
-/// A seat. Its packets stand in a table over the pool: for each number the turn, where the seat holds that packet.
+/// A seat. Its packets stand in a table over the pool: for each number the turn, where the seat
+/// holds that packet.
 #[derive(Drop)]
 pub struct Seat {
     held: Vec<Option<u64>>,
@@ -106,7 +107,9 @@ impl Seat {
     /// Takes this packet from this cell, under a claim.
     pub fn claim(&mut self, packet: Packet, cell: u32)
         requires { packet.number < length self.old.held }
-        ensures { self.new ≡ with_pending (Some (record { phase = Phase.Taking; cell = cell; packet = packet.number })) (holding packet self.old) }
+        ensures { self.new ≡ with_pending
+            (Some (record { phase = Phase.Taking; cell = cell; packet = packet.number }))
+            (holding packet self.old) }
     {
         self.hold(packet);
         self.pending = Some(Transfer {

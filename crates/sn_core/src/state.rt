@@ -29,8 +29,9 @@ impl Model for CoreState {
 }
 
 impl CoreState {
-    /// A core with as many packets and seats, and a lane for each pair of a transmitting and a receiving seat: cell i holds
-    /// packet i at turn 0, lanes are free and empty, and seats hold nothing. It has all the memory that it will need.
+    /// A core with as many packets and seats, and a lane for each pair of a transmitting and a
+    /// receiving seat: cell i holds packet i at turn 0, lanes are free and empty, and seats hold
+    /// nothing. It has all the memory that it will need.
     pub fn open(
         alloc: Global,
         pool: u32,
@@ -51,8 +52,8 @@ impl CoreState {
         })
     }
 
-    /// Makes the event where it is enabled. An event that names a cell, lane, seat, worker or packet that isn't there
-    /// isn't enabled.
+    /// Makes the event where it is enabled. An event that names a cell, lane, seat, worker or
+    /// packet that isn't there isn't enabled.
     pub fn step(&mut self, event: Event) -> Stepped
         // Done exactly where the event has a state after it, which is the state then; else nothing changes.
         ensures step { IsStep self.old event result self.new }
@@ -97,7 +98,8 @@ impl CoreState {
     pub fn owner(&self, number: u32) -> Owner
         requires { number < pool self.now }
         ensures stands { count_of number (owned_packets self.now result) ≡ 1 }
-        ensures only { (other : Owner) → 0 < count_of number (owned_packets self.now other) → other ≡ result }
+        ensures only { (other : Owner) →
+            0 < count_of number (owned_packets self.now other) → other ≡ result }
         ensures sound { IsSound self.now }
     {
         self.machine.owner(number)
