@@ -1,15 +1,13 @@
 -- A packet goes from a cell to a seat, over a lane and to the other seat: computed on the definitions.
-use Rattle.std.proofs.Common.{◌≡◌, ℕ, List, [], ◌∷◌, Some, None, refl}
-use Rattle.std.specs.Prelude.{slice_get}
+use Rattle.std.proofs.Common.{◌≡◌, List, [], ◌∷◌, None, refl}
 use Rattle.sn_core.specs.declared.events.Side.TheVariants.{Tx, Rx}
 use Rattle.sn_core.specs.declared.events.Event.{Event}
 use Rattle.sn_core.specs.declared.events.Event.TheVariants.{Attach, Take, Release, Lay, Publish, TakeClaim, TakeOut, TakeDone}
-use Rattle.sn_core.specs.Core.{Core, opened, all_after, done_count, after, standing}
+use Rattle.sn_core.specs.Core.{opened, all_after, done_count, after, standing}
 
 abbrev events : List Event
 events =
     TakeClaim 0 0 ∷ TakeOut 0 ∷ TakeDone 0 ∷ Attach 0 Tx ∷ Lay 0 0 ∷ Publish 0 ∷ Attach 0 Rx ∷ Take 0 ∷ Release 0 ∷ []
-
 
 all_done : done_count (opened 2 2 ((0, 1) ∷ [])) events ≡ 9
 all_done = refl

@@ -1,7 +1,7 @@
 -- Packets that move, and one that is handed over: what stands once still does, and turns still bound every position.
-use Rattle.std.proofs.Common.{◌≡◌, ◌≢◌, ℕ, ◌+◌, ◌*◌, ◌^◌, ◌<◌, ◌≤◌, Bool, true, false, Option, List, [], ◌∷◌, ◌++◌, length, Some, None, refl, sym, ap, ◌∙◌, subst, arith, slice_get, cond, eqb, ltb, ◌⊎◌, inl, inr}
-use Rattle.std.specs.List.{sum_by, All, count_by}
-use Rattle.std.proofs.lemmas.Bool.{ltb-true, le-ltb, lt-ltb, cases_lt}
+use Rattle.std.proofs.Common.{◌≡◌, ℕ, ◌+◌, ◌*◌, ◌≤◌, List, [], ◌∷◌, length, refl, ap, arith, cond, eqb, ltb, inl, inr}
+use Rattle.std.specs.List.{sum_by, All}
+use Rattle.std.proofs.lemmas.Bool.{le-ltb, lt-ltb, cases_lt}
 use Rattle.std.proofs.lemmas.List.Sums.{sum_by-cons, sum_by-le, get_or-le-sum_by}
 use Rattle.std.proofs.lemmas.List.Elements.{All-nil, All-cons, All-head, All-tail}
 use Rattle.sn_core.specs.declared.parts.TheConstants.{MAX_TURN}
@@ -9,7 +9,6 @@ use Rattle.sn_core.specs.declared.parts.Packet.{Packet}
 use Rattle.sn_core.specs.Lane.{LaneState}
 use Rattle.sn_core.specs.Core.{Core, pool, standing}
 use Rattle.sn_core.specs.Sound.{StandsOnce, TurnsBound, count_of}
-use Rattle.sn_core.specs.Kept.{HasShape}
 use Rattle.sn_core.proofs.Weights.{weigh, weigh_of}
 use Rattle.sn_core.proofs.Standing.{is_one, count_is}
 
@@ -48,8 +47,8 @@ not_too_high packet le = ap (λ b. cond b 1 0) (le-ltb MAX_TURN packet.turn le)
 bounded : (packet : Packet) → too_high packet ≡ 0 → packet.turn ≤ MAX_TURN
 bounded packet zero_is =
     elim (cases_lt MAX_TURN packet.turn) [
-      inl lt ↦ (let one : too_high packet ≡ 1 = ap (λ b. cond b 1 0) (lt-ltb MAX_TURN packet.turn lt) in omega (arith, one, zero_is))
-    | inr ge ↦ ge
+      | inl lt ↦ (let one : too_high packet ≡ 1 = ap (λ b. cond b 1 0) (lt-ltb MAX_TURN packet.turn lt) in omega (arith, one, zero_is))
+      | inr ge ↦ ge
     ]
 
 abbrev pub IsBounded : Packet → Type 0
@@ -77,10 +76,10 @@ stands_after old new before now h stands =
       within = λ n lt. omega (arith, same_count n, stands.within n (omega (arith, h.size)));
       beyond = λ n ge. omega (arith, same_count n, stands.beyond n (omega (arith, h.size)));
     } where
-  same_count : (n : ℕ) → count_of n (standing new) ≡ count_of n (standing old)
-  same_count n =
-      let same : is_one n before ≡ is_one n now = ap (λ k. cond (eqb k n) 1 0) h.same in
-      omega (arith, count_is new n, count_is old n, h.weight (is_one n), same)
+      same_count : (n : ℕ) → count_of n (standing new) ≡ count_of n (standing old)
+      same_count n =
+          let same : is_one n before ≡ is_one n now = ap (λ k. cond (eqb k n) 1 0) h.same in
+          omega (arith, count_is new n, count_is old n, h.weight (is_one n), same)
 
 pub total_after : (old new : Core) (before now : Packet) → HandsOver old new before now → length (standing old) ≡ pool old → length (standing new) ≡ pool new
 total_after old new before now h total =
@@ -93,14 +92,17 @@ turns_after old new before now h size total bound =
       positions = positions_new;
       below = λ k d lt. omega (arith, get_or-le-sum_by put_of new.lanes k d lt, positions_new, most, length_new, h.size);
     } where
-  turns_new : All IsBounded (standing new)
-  turns_new =
-      all_bounded (standing new)
-      (omega (arith, h.weight too_high, weigh_of too_high old, weigh_of too_high new, none_too_high (standing old) bound.turns, not_too_high now h.bound))
-  positions_new : sum_by put_of new.lanes ≤ sum_by turn_number (standing new)
-  positions_new =
-      omega (arith, h.puts, bound.positions, h.weight turn_number, weigh_of turn_number old, weigh_of turn_number new)
-  length_new : length (standing new) ≡ pool new
-  length_new = total_after old new before now h total
-  most : sum_by turn_number (standing new) ≤ length (standing new) * MAX_TURN
-  most = sum_by-le turn_number MAX_TURN (standing new) turns_new
+      turns_new : All IsBounded (standing new)
+      turns_new =
+          all_bounded (standing new)
+          (omega (arith, h.weight too_high, weigh_of too_high old, weigh_of too_high new, none_too_high (standing old) bound.turns, not_too_high now h.bound))
+
+      positions_new : sum_by put_of new.lanes ≤ sum_by turn_number (standing new)
+      positions_new =
+          omega (arith, h.puts, bound.positions, h.weight turn_number, weigh_of turn_number old, weigh_of turn_number new)
+
+      length_new : length (standing new) ≡ pool new
+      length_new = total_after old new before now h total
+
+      most : sum_by turn_number (standing new) ≤ length (standing new) * MAX_TURN
+      most = sum_by-le turn_number MAX_TURN (standing new) turns_new

@@ -1,7 +1,6 @@
 -- The machine's facts from their parts, and what several events share.
-use Rattle.std.proofs.Common.{◌≡◌, ◌≢◌, ℕ, ◌+◌, ◌<◌, ◌≤◌, Bool, true, false, Option, List, [], ◌∷◌, length, Some, None, is_some, IsSome, IsTrue, refl, sym, ap, ◌∙◌, subst, arith, slice_get, slice_set, ◌⊎◌, inl, inr}
-use Rattle.std.specs.List.{All, sum_by}
-use Rattle.std.proofs.lemmas.Bool.{false≢true}
+use Rattle.std.proofs.Common.{◌≡◌, ◌≢◌, ℕ, ◌≤◌, length, Some, None, IsSome, IsTrue, refl, sym, ap, ◌∙◌, subst, arith, slice_get}
+use Rattle.std.specs.List.{All}
 use Rattle.std.proofs.lemmas.List.{length-set}
 use Rattle.std.proofs.lemmas.Option.{none-some}
 use Rattle.std.proofs.lemmas.List.Elements.{All-set}
@@ -10,13 +9,13 @@ use Rattle.sn_core.specs.declared.parts.Cell.{Cell}
 use Rattle.sn_core.specs.declared.parts.Transfer.{Transfer}
 use Rattle.sn_core.specs.Lane.{LaneState}
 use Rattle.sn_core.specs.Seat.{SeatState, turn_of, is_fresh}
-use Rattle.sn_core.specs.Core.{Core, pool, standing, with_lane, with_seat, with_cell}
-use Rattle.sn_core.specs.Sound.{laid_at, turn_at, pending_at, pending_cell, StandsOnce, LaidStands, ClaimsAgree, QueueIsWhole, ClosesWhereDown, HeardWasSaid, TurnsBound, IsSound}
-use Rattle.sn_core.specs.Kept.{JoinsSeats, HasShape, Gives, IsUnworn, IsKept}
-use Rattle.sn_core.proofs.Weights.{weigh, weigh-with_lane, lane_weight, All_at, sum_by-written}
+use Rattle.sn_core.specs.Core.{Core, pool, with_lane, with_seat, with_cell}
+use Rattle.sn_core.specs.Sound.{laid_at, turn_at, pending_at, QueueIsWhole, ClosesWhereDown, HeardWasSaid}
+use Rattle.sn_core.specs.Kept.{JoinsSeats, Gives, IsKept}
+use Rattle.sn_core.proofs.Weights.{weigh-with_lane, lane_weight, All_at, sum_by-written}
 use Rattle.sn_core.proofs.HandOvers.{HandsOver, moves, put_of, stands_after, total_after, turns_after}
 use Rattle.sn_core.proofs.LaneChanges.{LaneKept}
-use Rattle.sn_core.proofs.Links.{Links, Agree, Claims, links_lane, agree_lane, at_lane, turn_found, fresh_some}
+use Rattle.sn_core.proofs.Links.{Links, Agree, Claims, agree_lane, at_lane, turn_found, fresh_some}
 
 pub links_of : (core : Core) → IsKept core → Links core
 links_of core kept =
@@ -41,11 +40,13 @@ lane_of core kept i lane at =
 
 -- the facts of each lane and of each seat
 pub record LanesKept (core : Core) : Type 0 where
+  pub many : length core.lanes ≤ 16
   pub queues : All QueueIsWhole core.lanes
   pub closes : All ClosesWhereDown core.lanes
   pub ends : All (JoinsSeats (length core.seats)) core.lanes
 
 pub record SeatsKept (core : Core) : Type 0 where
+  pub many : length core.seats ≤ 16
   pub heard : All HeardWasSaid core.seats
   pub tables : All (λ seat. length seat.held ≡ pool core) core.seats
 
@@ -68,6 +69,8 @@ kept_from old new before now kept hands links agree lanes seats =
       };
       shape = record {
         size = omega (arith, kept.shape.size, hands.size);
+        lanes = lanes.many;
+        seats = seats.many;
         ends = lanes.ends;
         tables = seats.tables;
         total = total_after old new before now hands kept.shape.total;
@@ -79,52 +82,55 @@ kept_from old new before now kept hands links agree lanes seats =
 pub lanes_after : (core : Core) (i : ℕ) (lane new : LaneState) → IsKept core → slice_get core.lanes i ≡ Some lane → LaneKept new → new.tx_seat ≡ lane.tx_seat → new.rx_seat ≡ lane.rx_seat → LanesKept (with_lane core i new)
 lanes_after core i lane new kept at lane_kept tx_is rx_is =
     record {
+      many = omega (arith, kept.shape.lanes, length-set core.lanes i new);
       queues = All-set QueueIsWhole core.lanes i new lane_kept.whole kept.sound.queues;
       closes = All-set ClosesWhereDown core.lanes i new lane_kept.closes kept.sound.closes;
       ends = All-set (JoinsSeats (length core.seats)) core.lanes i new
-        (let joins = All_at (JoinsSeats (length core.seats)) core.lanes i lane kept.shape.ends at in
+          (let joins = All_at (JoinsSeats (length core.seats)) core.lanes i lane kept.shape.ends at in
           record { tx = omega (arith, tx_is, joins.tx); rx = omega (arith, rx_is, joins.rx) })
-        kept.shape.ends;
+          kept.shape.ends;
     }
 
 pub lanes_same : (core : Core) → IsKept core → LanesKept core
-lanes_same core kept = record { queues = kept.sound.queues; closes = kept.sound.closes; ends = kept.shape.ends }
+lanes_same core kept = record { many = kept.shape.lanes; queues = kept.sound.queues; closes = kept.sound.closes; ends = kept.shape.ends }
 
 pub seats_same : (core : Core) → IsKept core → SeatsKept core
-seats_same core kept = record { heard = kept.sound.heard; tables = kept.shape.tables }
+seats_same core kept = record { many = kept.shape.seats; heard = kept.sound.heard; tables = kept.shape.tables }
 
 -- the same after another write of a seat or a cell
 pub lanes_beside_seat : (core : Core) (s : ℕ) (new : SeatState) → LanesKept core → LanesKept (with_seat core s new)
 lanes_beside_seat core s new lanes =
     record {
+      many = lanes.many;
       queues = lanes.queues;
       closes = lanes.closes;
       ends = subst (λ n. All (JoinsSeats n) core.lanes) (sym (length-set core.seats s new)) lanes.ends;
     }
 
 pub lanes_beside_cell : (core : Core) (c : ℕ) (cell : Cell) → LanesKept core → LanesKept (with_cell core c cell)
-lanes_beside_cell core c cell lanes = record { queues = lanes.queues; closes = lanes.closes; ends = lanes.ends }
+lanes_beside_cell core c cell lanes = record { many = lanes.many; queues = lanes.queues; closes = lanes.closes; ends = lanes.ends }
 
 pub seats_after : (core : Core) (s : ℕ) (seat new : SeatState) → slice_get core.seats s ≡ Some seat → length new.held ≡ length seat.held → HeardWasSaid new → SeatsKept core → SeatsKept (with_seat core s new)
 seats_after core s seat new there size heard seats =
     record {
+      many = omega (arith, seats.many, length-set core.seats s new);
       heard = All-set HeardWasSaid core.seats s new heard seats.heard;
       tables = All-set (λ x. length x.held ≡ pool core) core.seats s new (size ∙ All_at (λ x. length x.held ≡ pool core) core.seats s seat seats.tables there) seats.tables;
     }
 
 pub seats_beside_lane : (core : Core) (i : ℕ) (new : LaneState) → SeatsKept core → SeatsKept (with_lane core i new)
-seats_beside_lane core i new seats = record { heard = seats.heard; tables = seats.tables }
+seats_beside_lane core i new seats = record { many = seats.many; heard = seats.heard; tables = seats.tables }
 
 pub seats_beside_cell : (core : Core) (c : ℕ) (cell : Cell) → SeatsKept core → SeatsKept (with_cell core c cell)
 seats_beside_cell core c cell seats =
-    record { heard = seats.heard; tables = subst (λ n. All (λ x. length x.held ≡ n) core.seats) (sym (length-set core.cells c cell)) seats.tables }
+    record { many = seats.many; heard = seats.heard; tables = subst (λ n. All (λ x. length x.held ≡ n) core.seats) (sym (length-set core.cells c cell)) seats.tables }
 
 -- a packet that no seat holds is laid nowhere and under no claim
 pub unlaid_if : (core : Core) (n : ℕ) → Links core → ((s : ℕ) (seat : SeatState) → slice_get core.seats s ≡ Some seat → turn_of n seat ≡ None) → (k : ℕ) → laid_at core k ≡ Some n → ⊥
 unlaid_if core n links nobody k laid =
     at_lane core k n laid ⊥ (λ lane at is.
-      turn_found core lane.tx_seat n (fresh_some (turn_at core lane.tx_seat n) (links.fresh k n lane at is)) ⊥
-      (λ seat turn there held. none-some turn (sym (nobody lane.tx_seat seat there) ∙ held)))
+    turn_found core lane.tx_seat n (fresh_some (turn_at core lane.tx_seat n) (links.fresh k n lane at is)) ⊥
+    (λ seat turn there held. none-some turn (sym (nobody lane.tx_seat seat there) ∙ held)))
 
 pub unclaimed_if : (core : Core) (n : ℕ) → Links core → ((s : ℕ) (seat : SeatState) → slice_get core.seats s ≡ Some seat → turn_of n seat ≡ None) → (a : ℕ) (transfer : Transfer) → pending_at core a ≡ Some transfer → transfer.packet ≢ n
 unclaimed_if core n links nobody a transfer pending e =
@@ -139,16 +145,17 @@ claims_same core s seat new old transfer links there pending same gives turn_is 
       given = λ g. subst (λ o. IsTrue (is_fresh o)) (sym turn_now) (links.given s old old_at (gives g));
       unlaid = λ i laid. links.unclaimed i s transfer.packet old laid old_at same;
     } where
-  old_at : pending_at core s ≡ Some old
-  old_at = rw there pending
-  turn_now : turn_of transfer.packet new ≡ turn_at core s old.packet
-  turn_now = turn_is ∙ ap (λ n. turn_of n seat) (sym same) ∙ rw there refl
+      old_at : pending_at core s ≡ Some old
+      old_at = rw there pending
+
+      turn_now : turn_of transfer.packet new ≡ turn_at core s old.packet
+      turn_now = turn_is ∙ ap (λ n. turn_of n seat) (sym same) ∙ rw there refl
 
 -- a lane changes alone, and no packet with it
 pub keeps_lane : (core : Core) (i : ℕ) (lane new : LaneState) → IsKept core → slice_get core.lanes i ≡ Some lane → LaneKept new → new.tx_seat ≡ lane.tx_seat → new.rx_seat ≡ lane.rx_seat → new.put ≡ lane.put → ((f : Packet → ℕ) → lane_weight f new ≡ lane_weight f lane) → Links (with_lane core i new) → IsKept (with_lane core i new)
 keeps_lane core i lane new kept at lane_kept tx_is rx_is put_is weight links =
     kept_from core (with_lane core i new) (record { number = 0; turn = 0 }) (record { number = 0; turn = 0 }) kept
     (moves core (with_lane core i new) refl
-      (λ f. omega (arith, weigh-with_lane f core i lane new at, weight f))
-      (omega (arith, sum_by-written put_of core.lanes i lane new at, put_is)))
+    (λ f. omega (arith, weigh-with_lane f core i lane new at, weight f))
+    (omega (arith, sum_by-written put_of core.lanes i lane new at, put_is)))
     links (agree_lane core i new (agree_of core kept)) (lanes_after core i lane new kept at lane_kept tx_is rx_is) (seats_beside_lane core i new (seats_same core kept))

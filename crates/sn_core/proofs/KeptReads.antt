@@ -1,6 +1,5 @@
 -- What the machine's facts say of one lane or seat of it.
-use Rattle.std.proofs.Common.{◌≡◌, ℕ, ◌+◌, ◌<◌, ◌≤◌, ◌^◌, ◌*◌, Option, List, Bool, true, length, Some, None, refl, sym, subst, arith, slice_get}
-use Rattle.std.specs.List.{All}
+use Rattle.std.proofs.Common.{◌≡◌, ℕ, ◌<◌, ◌^◌, Option, true, length, Some, refl, subst, slice_get}
 use Rattle.sn_core.specs.declared.events.Side.{Side}
 use Rattle.sn_core.specs.declared.events.Side.TheVariants.{Tx, Rx}
 use Rattle.sn_core.specs.declared.parts.Packet.{Packet}
@@ -64,8 +63,8 @@ given_fresh core kept s turn seat transfer there pending phase held =
     let at : pending_at core s ≡ Some transfer = rw there pending in
     let turn_is : turn_at core s transfer.packet ≡ Some turn = rw there held in
     fresh_below (turn_at core s transfer.packet) turn turn_is (kept.unworn.given s transfer at (gives transfer.phase phase)) where
-  gives : (phase : Phase) → is_phase GivenIn phase ≡ true → Gives phase
-  gives Taking e = cc
-  gives TakenOut e = cc
-  gives Giving e = tt
-  gives GivenIn e = tt
+      gives : (phase : Phase) → is_phase GivenIn phase ≡ true → Gives phase
+      gives Taking e = cc
+      gives TakenOut e = cc
+      gives Giving e = tt
+      gives GivenIn e = tt

@@ -1,5 +1,5 @@
 -- What each event on a lane keeps: that its queue is whole, and that an end closes exactly where it is down.
-use Rattle.std.proofs.Common.{◌≡◌, ◌≢◌, ℕ, ◌+◌, ◌-◌, ◌<◌, ◌≤◌, Bool, true, false, not, ◌&&◌, ◌||◌, Option, List, [], ◌∷◌, ◌++◌, length, drop, map, Some, None, is_some, is_none, IsSome, IsTrue, refl, sym, ap, ◌∙◌, subst, arith, nat_lt}
+use Rattle.std.proofs.Common.{◌≡◌, ℕ, ◌+◌, ◌-◌, ◌<◌, Bool, true, false, not, ◌&&◌, ◌||◌, Option, List, [], ◌∷◌, ◌++◌, length, drop, Some, None, is_some, is_none, IsSome, IsTrue, refl, sym, ap, ◌∙◌, subst, arith, nat_lt}
 use Rattle.std.specs.List.{All}
 use Rattle.std.proofs.lemmas.Bool.{and_parts, ltb-true, not-true, false≢true}
 use Rattle.std.proofs.lemmas.List.{length_push}
@@ -9,7 +9,7 @@ use Rattle.sn_core.specs.declared.events.Side.TheVariants.{Tx, Rx}
 use Rattle.sn_core.specs.declared.parts.Field.{Field}
 use Rattle.sn_core.specs.declared.parts.Field.TheVariants.{Absent, Up, Gone}
 use Rattle.sn_core.specs.declared.parts.Packet.{Packet}
-use Rattle.sn_core.specs.Lane.{LaneState, is_up, is_absent, is_free, is_down, is_side, is_unreleased, first_packet, closed_by, is_empty_queue, with_first_emptied, can_attach, attached, can_detach, detached, can_reset, was_reset, can_take, taken, can_release, released, can_drain, can_drain_release, can_lay, with_laid, published}
+use Rattle.sn_core.specs.Lane.{LaneState, is_up, is_absent, is_down, is_side, is_unreleased, first_packet, closed_by, is_empty_queue, with_first_emptied, can_attach, attached, can_detach, detached, can_reset, was_reset, can_take, taken, released, can_drain, can_lay, with_laid, published}
 use Rattle.sn_core.specs.Sound.{QueueIsWhole, ClosesWhereDown}
 
 -- both facts of a lane

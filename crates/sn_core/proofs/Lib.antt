@@ -14,3 +14,4 @@ pub mod KeepsCells
 pub mod KeepsAll
 pub mod Runs
 pub mod Opened
+pub mod OneOwner

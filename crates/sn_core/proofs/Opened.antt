@@ -1,23 +1,21 @@
 -- The core as it opens has the machine's facts.
-use Rattle.std.proofs.Common.{◌≡◌, ◌≢◌, ℕ, ◌+◌, ◌*◌, ◌^◌, ◌<◌, ◌≤◌, Bool, true, false, Option, List, [], ◌∷◌, ◌++◌, length, map, replicate, Some, None, is_some, IsSome, IsTrue, refl, sym, ap, ◌∙◌, subst, arith, slice_get, zero, suc, add-one, inl, inr, cond, eqb, ◌⊎◌, ⊎_elim}
-use Rattle.std.specs.Prelude.{option_map, option_and_then}
+use Rattle.std.proofs.Common.{◌≡◌, ◌≢◌, ℕ, ◌+◌, ◌*◌, ◌^◌, ◌<◌, ◌≤◌, Option, List, [], ◌∷◌, length, map, replicate, Some, None, IsSome, refl, sym, ap, ◌∙◌, subst, arith, slice_get, zero, suc, inl, inr, cond, ◌⊎◌, ⊎_elim}
+use Rattle.std.specs.Prelude.{option_map}
 use Rattle.std.specs.List.{range_with_len, sum_by, All}
-use Rattle.std.proofs.lemmas.Bool.{eq-eqb, ne_eqb, cases_eq, cases_lt, false≢true}
+use Rattle.std.proofs.lemmas.Bool.{eq-eqb, ne_eqb, cases_eq, false≢true}
 use Rattle.std.proofs.lemmas.Option.{none-some}
 use Rattle.std.proofs.lemmas.List.{length-replicate, length-map}
 use Rattle.std.proofs.lemmas.List.Sums.{sum_by-cons}
 use Rattle.std.proofs.lemmas.List.Folds.{sum_by-replicate}
 use Rattle.std.proofs.lemmas.List.Elements.{All-replicate, All-nil, All-cons, All-head, All-tail}
-use Rattle.sn_core.specs.declared.parts.TheConstants.{MAX_TURN}
 use Rattle.sn_core.specs.declared.parts.Packet.{Packet}
-use Rattle.sn_core.specs.declared.parts.Cell.{Cell}
-use Rattle.sn_core.specs.declared.parts.Cell.TheVariants.{Empty, Busy, Full}
+use Rattle.sn_core.specs.declared.parts.Cell.TheVariants.{Busy}
 use Rattle.sn_core.specs.declared.parts.Transfer.{Transfer}
 use Rattle.sn_core.specs.Lane.{LaneState, free_lane}
-use Rattle.sn_core.specs.Seat.{SeatState, idle_seat, turn_of}
+use Rattle.sn_core.specs.Seat.{idle_seat}
 use Rattle.sn_core.specs.Core.{Core, opened, opening_cell, pool, standing, IsPairOfSeats}
-use Rattle.sn_core.specs.Sound.{laid_at, pending_at, pending_cell, StandsOnce, TurnsBound, QueueIsWhole, ClosesWhereDown, HeardWasSaid}
-use Rattle.sn_core.specs.Kept.{IsKept, JoinsSeats, HasShape}
+use Rattle.sn_core.specs.Sound.{laid_at, pending_at, pending_cell, QueueIsWhole, ClosesWhereDown, HeardWasSaid}
+use Rattle.sn_core.specs.Kept.{IsKept, JoinsSeats}
 use Rattle.sn_core.proofs.Weights.{weigh, weigh_is, weigh_of, cell_weight, lane_weight, seat_weight, cell_weight-full, All_at, free_lane_weight, idle_pool_weight}
 use Rattle.sn_core.proofs.Standing.{is_one, count_is}
 use Rattle.sn_core.proofs.HandOvers.{too_high, not_too_high, all_bounded, length_is}
@@ -41,9 +39,9 @@ in_cells : (n first count : ℕ) → first ≤ n → n < first + count → sum_b
 in_cells n first zero ge lt = absurd (omega arith)
 in_cells n first (suc count) ge lt =
     elim (cases_eq first n) [
-      inl e ↦ omega (arith, sum_by-cons (cell_weight (is_one n)) (opening_cell first) (map opening_cell (range_with_len (first + 1) count)), here n first e, out_of_cells n (first + 1) count (inl (omega arith)))
-    | inr differ ↦ (let ne : first ≢ n = differ in
-        omega (arith, sum_by-cons (cell_weight (is_one n)) (opening_cell first) (map opening_cell (range_with_len (first + 1) count)), elsewhere n first differ, in_cells n (first + 1) count (omega arith) (omega arith)))
+      | inl e ↦ omega (arith, sum_by-cons (cell_weight (is_one n)) (opening_cell first) (map opening_cell (range_with_len (first + 1) count)), here n first e, out_of_cells n (first + 1) count (inl (omega arith)))
+      | inr differ ↦ (let ne : first ≢ n = differ in
+          omega (arith, sum_by-cons (cell_weight (is_one n)) (opening_cell first) (map opening_cell (range_with_len (first + 1) count)), elsewhere n first differ, in_cells n (first + 1) count (omega arith) (omega arith)))
     ]
 
 length_cells : (first count : ℕ) → length (map opening_cell (range_with_len first count)) ≡ count
@@ -115,8 +113,8 @@ ones first zero = refl
 ones first (suc count) =
     omega (arith, sum_by-cons (cell_weight (λ packet. 1)) (opening_cell first) (map opening_cell (range_with_len (first + 1) count)), cell_weight-full (λ packet. 1) (record { number = first; turn = 0 }), ones (first + 1) count)
 
-pub opened_kept : (count seats : ℕ) (lanes : List (ℕ × ℕ)) → count ≤ 16384 → All (IsPairOfSeats seats) lanes → IsKept (opened count seats lanes)
-opened_kept count seats lanes size ends =
+pub opened_kept : (count seats : ℕ) (lanes : List (ℕ × ℕ)) → count ≤ 16384 → seats ≤ 16 → length lanes ≤ 16 → All (IsPairOfSeats seats) lanes → IsKept (opened count seats lanes)
+opened_kept count seats lanes size few_seats few_lanes ends =
     record {
       sound = record {
         stands = record {
@@ -144,6 +142,8 @@ opened_kept count seats lanes size ends =
       };
       shape = record {
         size = omega (arith, length_cells 0 count);
+        lanes = omega (arith, few_lanes, length-map lanes (λ ends. free_lane ends.0 ends.1));
+        seats = omega (arith, few_seats, length-replicate seats (idle_seat count));
         ends = subst (λ n. All (JoinsSeats n) core.lanes) (sym (length-replicate seats (idle_seat count))) (ends_joined seats lanes ends);
         tables = All-replicate (λ seat. length seat.held ≡ pool core) seats (idle_seat count) (length-replicate count None ∙ sym (length_cells 0 count));
         total = length_is (standing core) ∙ sym (weigh_of (λ packet. 1) core) ∙ opened_weight (λ packet. 1) count seats lanes ∙ ones 0 count ∙ sym (length_cells 0 count);
@@ -153,11 +153,14 @@ opened_kept count seats lanes size ends =
         given = λ s transfer e gives. absurd (nothing_pending core idle s transfer e);
       };
     } where
-  core : Core
-  core = opened count seats lanes
-  free : All (λ lane. lane.laid ≡ None) (map (λ e. free_lane e.0 e.1) lanes)
-  free = free_at (λ lane. lane.laid ≡ None) lanes (λ a b. refl)
-  idle : All (λ seat. seat.pending ≡ None) (replicate seats (idle_seat count))
-  idle = All-replicate (λ seat. seat.pending ≡ None) seats (idle_seat count) refl
-  nothing : (i n : ℕ) → laid_at (opened count seats lanes) i ≡ Some n → ⊥
-  nothing = nothing_laid (opened count seats lanes) free
+      core : Core
+      core = opened count seats lanes
+
+      free : All (λ lane. lane.laid ≡ None) (map (λ e. free_lane e.0 e.1) lanes)
+      free = free_at (λ lane. lane.laid ≡ None) lanes (λ a b. refl)
+
+      idle : All (λ seat. seat.pending ≡ None) (replicate seats (idle_seat count))
+      idle = All-replicate (λ seat. seat.pending ≡ None) seats (idle_seat count) refl
+
+      nothing : (i n : ℕ) → laid_at (opened count seats lanes) i ≡ Some n → ⊥
+      nothing = nothing_laid (opened count seats lanes) free

@@ -1,5 +1,5 @@
 -- A run over a list of events, one event further.
-use Rattle.std.proofs.Common.{◌≡◌, ℕ, ◌+◌, ◌≤◌, Bool, true, false, Option, List, [], ◌∷◌, ◌++◌, length, Some, None, is_some, cond, take, get_or, ◌<◌, refl, sym, ap, ◌∙◌, arith}
+use Rattle.std.proofs.Common.{◌≡◌, ℕ, ◌+◌, ◌≤◌, Bool, true, false, List, [], ◌∷◌, ◌++◌, length, is_some, cond, take, get_or, ◌<◌, refl, sym, ap, ◌∙◌, arith}
 use Rattle.std.proofs.lemmas.List.{take_more}
 use Rattle.sn_core.specs.declared.events.Event.{Event}
 use Rattle.sn_core.specs.Core.{Core, after, next, all_after, done_count}
@@ -23,9 +23,8 @@ run_more core mid new events i done made d lt mid_is done_is le new_is made_is =
     let event = get_or events i d in
     let more : take (i + 1) events ≡ take i events ++ event ∷ [] = take_more events i d lt in
     let count : done_count core (take i events ++ event ∷ []) ≡ done + made =
-      done_count_more core (take i events) event ∙ omega (arith, done_is, made_is, ap {B = ℕ} (λ m. cond (is_some (after m event)) 1 0) mid_is) in
-    (
+    done_count_more core (take i events) event ∙ omega (arith, done_is, made_is, ap {B = ℕ} (λ m. cond (is_some (after m event)) 1 0) mid_is) in (
       new_is ∙ ap (λ m. next m event) mid_is ∙ sym (all_after_more core (take i events) event) ∙ ap (λ es. all_after core es) (sym more),
       sym count ∙ ap (λ es. done_count core es) (sym more),
-      omega (arith, made_is, one_at_most (is_some (after mid event)))
+      omega (arith, made_is, one_at_most (is_some (after mid event))),
     )

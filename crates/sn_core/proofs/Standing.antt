@@ -1,11 +1,10 @@
 -- Where a packet stands once, it stands nowhere else: what the counts say of single cells, lanes and seats.
-use Rattle.std.proofs.Common.{◌≡◌, ◌≢◌, ℕ, ◌+◌, ◌<◌, ◌≤◌, Bool, true, false, Option, List, [], ◌∷◌, ◌++◌, length, Some, None, refl, sym, ap, ◌∙◌, subst, arith, slice_get, cond, eqb, ◌⊎◌, inl, inr}
+use Rattle.std.proofs.Common.{◌≡◌, ℕ, ◌<◌, ◌≤◌, Option, Some, None, refl, sym, ap, arith, slice_get, cond, eqb, inl, inr}
 use Rattle.std.proofs.lemmas.Bool.{eq-eqb, cases_lt}
 use Rattle.sn_core.specs.declared.parts.Packet.{Packet}
-use Rattle.sn_core.specs.declared.parts.Cell.{Cell}
 use Rattle.sn_core.specs.declared.parts.Cell.TheVariants.{Full}
-use Rattle.sn_core.specs.Lane.{LaneState, first_packet, taken}
-use Rattle.sn_core.specs.Seat.{SeatState, turn_of, letting_go, idle_seat}
+use Rattle.sn_core.specs.Lane.{LaneState, first_packet}
+use Rattle.sn_core.specs.Seat.{SeatState, turn_of, idle_seat}
 use Rattle.sn_core.specs.Core.{Core, pool, standing}
 use Rattle.sn_core.specs.Sound.{StandsOnce, count_of}
 use Rattle.sn_core.proofs.Weights.{weigh, weigh_of, weigh_is, cell_weight, lane_weight, seat_weight, at-le-sum_by, cell_weight-full, lane_weight-taken, seat_weight-letting_go, idle_seat_weight}
@@ -27,15 +26,15 @@ count_is core n = sym (weigh_of (is_one n) core)
 pub counted_at_most_once : (core : Core) → StandsOnce core → (n : ℕ) → weigh (is_one n) core ≤ 1
 counted_at_most_once core stands n =
     elim (cases_lt n (pool core)) [
-      inl lt ↦ omega (arith, stands.within n lt, count_is core n)
-    | inr ge ↦ omega (arith, stands.beyond n ge, count_is core n)
+      | inl lt ↦ omega (arith, stands.within n lt, count_is core n)
+      | inr ge ↦ omega (arith, stands.beyond n ge, count_is core n)
     ]
 
 pub below_pool : (core : Core) → StandsOnce core → (n : ℕ) → 1 ≤ weigh (is_one n) core → n < pool core
 below_pool core stands n some =
     elim (cases_lt n (pool core)) [
-      inl lt ↦ lt
-    | inr ge ↦ absurd (omega (arith, stands.beyond n ge, count_is core n))
+      | inl lt ↦ lt
+      | inr ge ↦ absurd (omega (arith, stands.beyond n ge, count_is core n))
     ]
 
 -- the packet of a full cell, of a first place, of a seat's list counts
@@ -62,30 +61,30 @@ none_if (Some turn) never = absurd (never turn refl)
 pub not_held_in_cell : (core : Core) → StandsOnce core → (c s : ℕ) (packet : Packet) (seat : SeatState) → slice_get core.cells c ≡ Some (Full packet) → slice_get core.seats s ≡ Some seat → turn_of packet.number seat ≡ None
 not_held_in_cell core stands c s packet seat at there =
     none_if (turn_of packet.number seat) (λ turn held.
-      omega (
-        arith,
-        counted_at_most_once core stands packet.number,
-        weigh_is (is_one packet.number) core,
-        at-le-sum_by (cell_weight (is_one packet.number)) core.cells c (Full packet) at,
-        cell_weight-full (is_one packet.number) packet,
-        is_one-at packet.number packet refl,
-        at-le-sum_by (seat_weight (is_one packet.number)) core.seats s seat there,
-        seat_weight-held packet.number turn seat held
-      ))
+    omega (
+      arith,
+      counted_at_most_once core stands packet.number,
+      weigh_is (is_one packet.number) core,
+      at-le-sum_by (cell_weight (is_one packet.number)) core.cells c (Full packet) at,
+      cell_weight-full (is_one packet.number) packet,
+      is_one-at packet.number packet refl,
+      at-le-sum_by (seat_weight (is_one packet.number)) core.seats s seat there,
+      seat_weight-held packet.number turn seat held,
+    ))
 
 pub not_held_in_lane : (core : Core) → StandsOnce core → (i s : ℕ) (lane : LaneState) (packet : Packet) (seat : SeatState) → slice_get core.lanes i ≡ Some lane → first_packet lane.queue ≡ Some packet → slice_get core.seats s ≡ Some seat → turn_of packet.number seat ≡ None
 not_held_in_lane core stands i s lane packet seat at first there =
     none_if (turn_of packet.number seat) (λ turn held.
-      omega (
-        arith,
-        counted_at_most_once core stands packet.number,
-        weigh_is (is_one packet.number) core,
-        at-le-sum_by (lane_weight (is_one packet.number)) core.lanes i lane at,
-        lane_weight-taken (is_one packet.number) lane packet first,
-        is_one-at packet.number packet refl,
-        at-le-sum_by (seat_weight (is_one packet.number)) core.seats s seat there,
-        seat_weight-held packet.number turn seat held
-      ))
+    omega (
+      arith,
+      counted_at_most_once core stands packet.number,
+      weigh_is (is_one packet.number) core,
+      at-le-sum_by (lane_weight (is_one packet.number)) core.lanes i lane at,
+      lane_weight-taken (is_one packet.number) lane packet first,
+      is_one-at packet.number packet refl,
+      at-le-sum_by (seat_weight (is_one packet.number)) core.seats s seat there,
+      seat_weight-held packet.number turn seat held,
+    ))
 
 -- a seat that holds nothing weighs nothing
 pub idle_weight : (n : ℕ) → seat_weight (is_one n) (idle_seat 0) ≡ 0

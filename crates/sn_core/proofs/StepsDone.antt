@@ -1,5 +1,5 @@
 -- The state after an event, computed where what it reads is known.
-use Rattle.std.proofs.Common.{◌≡◌, ℕ, ◌<◌, Bool, true, false, Option, List, [], ◌∷◌, length, Some, None, refl, sym, ◌∙◌, ap, slice_get, slice_set, get_or, is_some, is_none}
+use Rattle.std.proofs.Common.{◌≡◌, ℕ, ◌<◌, Bool, true, Option, List, [], ◌∷◌, length, Some, None, refl, ◌∙◌, slice_get, slice_set, get_or, is_some, is_none}
 use Rattle.std.proofs.lemmas.Option.{get_or_from_slice_get, slice_get_read}
 use Rattle.sn_core.specs.declared.events.Side.{Side}
 use Rattle.sn_core.specs.declared.parts.Packet.{Packet}

@@ -1,6 +1,6 @@
 -- The packets that stand in the core, weighed: the weight of all is that of the cells, the lanes and the seats.
-use Rattle.std.proofs.Common.{◌≡◌, ℕ, ◌+◌, ◌-◌, ◌<◌, ◌≤◌, Bool, true, false, Option, List, [], ◌∷◌, ◌++◌, length, Some, None, refl, sym, ap, ◌∙◌, subst, arith, slice_get, slice_set, map, zero, suc, add-zero, zero-add, drop, get_or, replicate}
-use Rattle.std.specs.List.{flat_map, sum_by, All, count_by}
+use Rattle.std.proofs.Common.{◌≡◌, ℕ, ◌+◌, ◌<◌, ◌≤◌, true, Option, List, [], ◌∷◌, ◌++◌, length, Some, None, refl, sym, ap, subst, arith, slice_get, slice_set, map, zero, suc, add-zero, zero-add, drop, get_or, replicate}
+use Rattle.std.specs.List.{flat_map, sum_by, All}
 use Rattle.std.proofs.lemmas.List.Sums.{sum_by-cons, sum_by-append, sum_by-set, get_or-le-sum_by}
 use Rattle.std.proofs.lemmas.Option.{slice_get_within, get_or_from_slice_get, slice_get-get_or}
 use Rattle.std.proofs.lemmas.List.Concat.{flat_map-append}
@@ -46,7 +46,7 @@ weigh_is f core =
       sum_by-append f (flat_map queued_packets core.lanes) (flat_map held_packets core.seats),
       sum_by-flat_map f cell_packets core.cells,
       sum_by-flat_map f queued_packets core.lanes,
-      sum_by-flat_map f held_packets core.seats
+      sum_by-flat_map f held_packets core.seats,
     )
 
 -- one part is written
@@ -94,9 +94,9 @@ pub lane_weight-published : (f : Packet → ℕ) (lane : LaneState) (packets : L
 unfolding lane_weight
 lane_weight-published f lane packets =
     rw (flat_map-append place_packets lane.queue (map Some packets), all_filled packets, sum_by-append f (flat_map place_packets lane.queue) packets) refl where
-  all_filled : (ps : List Packet) → flat_map place_packets (map Some ps) ≡ ps
-  all_filled [] = refl
-  all_filled (p ∷ ps) = ap (λ qs. p ∷ qs) (all_filled ps)
+      all_filled : (ps : List Packet) → flat_map place_packets (map Some ps) ≡ ps
+      all_filled [] = refl
+      all_filled (p ∷ ps) = ap (λ qs. p ∷ qs) (all_filled ps)
 
 pub lane_weight-released : (f : Packet → ℕ) (lane : LaneState) → is_unreleased lane.queue ≡ true → lane_weight f (released lane) ≡ lane_weight f lane
 unfolding lane_weight
@@ -177,3 +177,26 @@ idle_pool_weight f pool = go 0 pool where
   go : (first count : ℕ) → sum_by f (packets_from first (replicate count None)) ≡ 0
   go first zero = refl
   go first (suc count) = go (suc first) count
+
+-- the weights, opened
+pub cell_weight_of : (f : Packet → ℕ) (cell : Cell) → cell_weight f cell ≡ sum_by f (cell_packets cell)
+unfolding cell_weight
+cell_weight_of f cell = refl
+
+pub lane_weight_of : (f : Packet → ℕ) (lane : LaneState) → lane_weight f lane ≡ sum_by f (flat_map place_packets lane.queue)
+unfolding lane_weight
+lane_weight_of f lane = refl
+
+pub seat_weight_of : (f : Packet → ℕ) (seat : SeatState) → seat_weight f seat ≡ sum_by f (packets_from 0 seat.held)
+unfolding seat_weight
+seat_weight_of f seat = refl
+
+-- what a slot weighs
+abbrev pub slot_value : (Packet → ℕ) → ℕ → Option ℕ → ℕ
+slot_value f number None = 0
+slot_value f number (Some turn) = f (record { number = number; turn = turn })
+
+pub slot_weight_of : (f : Packet → ℕ) (number : ℕ) (slot : Option ℕ) → slot_weight f number slot ≡ slot_value f number slot
+unfolding slot_weight
+slot_weight_of f number None = refl
+slot_weight_of f number (Some turn) = refl

@@ -1,15 +1,12 @@
 -- What stands in a list after a write, and what lanes and seats of the core are after one.
-use Rattle.std.proofs.Common.{◌≡◌, ◌≢◌, ℕ, ◌+◌, ◌<◌, ◌≤◌, Bool, true, false, Option, List, [], ◌∷◌, length, Some, None, refl, sym, ap, ◌∙◌, subst, arith, slice_get, slice_set, zero, suc, ◌⊎◌, inl, inr}
+use Rattle.std.proofs.Common.{◌≡◌, ◌≢◌, ℕ, ◌+◌, ◌≤◌, Option, List, [], ◌∷◌, Some, None, refl, sym, ap, ◌∙◌, subst, arith, slice_get, slice_set, zero, suc, ◌⊎◌, inl, inr}
 use Rattle.std.specs.List.{sum_by}
 use Rattle.std.proofs.lemmas.Bool.{cases_eq}
-use Rattle.std.proofs.lemmas.Option.{slice_get_within}
 use Rattle.sn_core.specs.declared.parts.Packet.{Packet}
-use Rattle.sn_core.specs.declared.parts.Cell.{Cell}
-use Rattle.sn_core.specs.declared.parts.Transfer.{Transfer}
 use Rattle.sn_core.specs.Lane.{LaneState}
-use Rattle.sn_core.specs.Seat.{SeatState, turn_of, holding, letting_go, joined, idle_seat}
-use Rattle.sn_core.specs.Core.{Core, with_lane, with_seat, with_cell}
-use Rattle.sn_core.specs.Sound.{laid_at, turn_at, pending_at, pending_cell, StandsOnce}
+use Rattle.sn_core.specs.Seat.{SeatState, turn_of, holding, letting_go, joined}
+use Rattle.sn_core.specs.Core.{Core, with_lane, with_seat}
+use Rattle.sn_core.specs.Sound.{laid_at, turn_at, pending_at}
 use Rattle.sn_core.proofs.Weights.{sum_by-written, at-le-sum_by}
 
 pub get_same : {X : Type 0} (xs : List X) (i : ℕ) (x y : X) → slice_get xs i ≡ Some x → slice_get (slice_set xs i y) i ≡ Some y
@@ -28,8 +25,8 @@ get_other (z ∷ xs) (suc i) (suc k) y differ = get_other xs i k y (λ e. differ
 pub get_written : {X : Type 0} (xs : List X) (i k : ℕ) (x y z : X) → slice_get xs i ≡ Some x → slice_get (slice_set xs i y) k ≡ Some z → ((k ≡ i) × (z ≡ y)) ⊎ ((k ≢ i) × (slice_get xs k ≡ Some z))
 get_written xs i k x y z at after =
     elim (cases_eq k i) [
-      inl same ↦ inl (same, (let e : slice_get (slice_set xs i y) i ≡ Some z = subst (λ j. slice_get (slice_set xs i y) j ≡ Some z) same after in let f = get_same xs i x y at in cc))
-    | inr differ ↦ inr (differ, sym (get_other xs i k y differ) ∙ after)
+      | inl same ↦ inl (same, (let e : slice_get (slice_set xs i y) i ≡ Some z = subst (λ j. slice_get (slice_set xs i y) j ≡ Some z) same after in let f = get_same xs i x y at in cc))
+      | inr differ ↦ inr (differ, sym (get_other xs i k y differ) ∙ after)
     ]
 
 -- two elements together weigh no more than all; `light` weighs nothing

@@ -1,5 +1,5 @@
 -- The core: its state, the state after each event, and after a list of events.
-use Rattle.std.specs.Prelude.{◌≡◌, ◌≢◌, ◌<◌, ℕ, zero, ◌+◌, Bool, true, false, not, ◌&&◌, ◌||◌, ◌==◌, option_map, replicate, if◌then◌else◌, Option, Some, None, is_some, is_none, unwrap_or, option_and_then, List, [], ◌∷◌, ◌++◌, map, length, slice_get, slice_set, nat_le, suc}
+use Rattle.std.specs.Prelude.{◌≡◌, ◌≢◌, ◌<◌, ℕ, ◌+◌, Bool, true, false, not, ◌&&◌, ◌||◌, ◌==◌, option_map, replicate, if◌then◌else◌, Option, Some, None, is_some, is_none, unwrap_or, option_and_then, List, [], ◌∷◌, ◌++◌, map, length, slice_get, slice_set, nat_le}
 use Rattle.std.specs.List.{flat_map, list_any, range_with_len}
 use Rattle.sn_core.specs.declared.events.Side.{Side}
 use Rattle.sn_core.specs.declared.events.Side.TheVariants.{Tx, Rx}
@@ -7,8 +7,6 @@ use Rattle.sn_core.specs.declared.events.Event.{Event}
 use Rattle.sn_core.specs.declared.events.Event.TheVariants.{Look, Attach, Detach, Reset, Take, Release, Lay, Publish, TakeBack, DrainTake, DrainRelease, TakeClaim, TakeOut, TakeDone, GiveClaim, GiveIn, GiveDone, Say, Hear, Stop, Restart}
 use Rattle.sn_core.specs.declared.events.Stepped.{Stepped}
 use Rattle.sn_core.specs.declared.events.Stepped.TheVariants.{Done, NotEnabled}
-use Rattle.sn_core.specs.declared.events.Owner.{Owner}
-use Rattle.sn_core.specs.declared.events.Owner.TheVariants as Owner
 use Rattle.sn_core.specs.declared.parts.Packet.{Packet}
 use Rattle.sn_core.specs.declared.parts.Cell.{Cell}
 use Rattle.sn_core.specs.declared.parts.Cell.TheVariants.{Empty, Busy, Full}
@@ -39,6 +37,7 @@ abbrev pub place_packets : Option Packet → List Packet
 place_packets None = []
 place_packets (Some packet) = packet ∷ []
 
+-- the packets of a lane's queue
 abbrev pub queued_packets : LaneState → List Packet
 queued_packets lane = flat_map place_packets lane.queue
 
@@ -57,7 +56,7 @@ with_seat core s seat = record { cells = core.cells; lanes = core.lanes; seats =
 abbrev pub with_cell : Core → ℕ → Cell → Core
 with_cell core c cell = record { cells = slice_set core.cells c cell; lanes = core.lanes; seats = core.seats }
 
--- the state after, where the condition holds
+-- what is read must be there, and the condition must hold
 infixl 10 ◌>>=◌
 abbrev pub ◌>>=◌ : {A B : Type 0} → Option A → (A → Option B) → Option B
 o >>= f = option_and_then f o
@@ -98,16 +97,19 @@ claims number seat = is_of_packet number seat.pending
 abbrev pub may_go : Core → ℕ → SeatState → Bool
 may_go core number seat = is_fresh (turn_of number seat) && not (list_any (lays number) core.lanes)
 
+-- it may lay the packet at this lane: there is room, and the packet is under no claim
 abbrev pub may_lay : Core → ℕ → LaneState → SeatState → Bool
 may_lay core number lane seat = can_lay lane && may_go core number seat && not (claims number seat)
 
--- one end of the lane is this seat's, and is up or closes
+-- this end of the lane is the seat's, and is up or closes
 abbrev pub has_end : ℕ → Side → LaneState → Bool
 has_end s side lane = (seat_of side lane == s) && (is_up (field_of side lane) || is_side side lane.closes)
 
+-- the seat has an end there that is up or closes
 abbrev pub is_in_use : ℕ → LaneState → Bool
 is_in_use s lane = has_end s Tx lane || has_end s Rx lane
 
+-- what a cell holds
 abbrev pub full_packet : Cell → Option Packet
 full_packet Empty = None
 full_packet (Busy seat) = None
@@ -118,6 +120,7 @@ is_empty_cell Empty = true
 is_empty_cell (Busy seat) = false
 is_empty_cell (Full packet) = false
 
+-- the transfer has come to this phase
 abbrev pub is_phase : Phase → Phase → Bool
 is_phase Taking Taking = true
 is_phase TakenOut TakenOut = true
@@ -137,6 +140,7 @@ take_first core i side test = do
   seat ← slice_get core.seats (seat_of side lane)
   when (test lane) (with_seat (with_lane core i (taken lane)) (seat_of side lane) (holding packet seat))
 
+-- a packet of the transmitting seat is laid, and stays in its list
 abbrev pub lay : Core → ℕ → ℕ → Option Core
 lay core i number = do
   lane ← slice_get core.lanes i
@@ -159,7 +163,7 @@ take_claim core s c = do
   cell ← slice_get core.cells c
   packet ← full_packet cell
   when (is_none seat.pending) (with_seat (with_cell core c (Busy s)) s
-    (with_pending (Some (record { phase = Taking; cell = c; packet = packet.number })) (holding packet seat)))
+      (with_pending (Some (record { phase = Taking; cell = c; packet = packet.number })) (holding packet seat)))
 
 -- the transfer goes on from the one phase to the other
 abbrev pub go_on : Core → ℕ → Phase → Phase → Option Core
@@ -168,18 +172,20 @@ go_on core s from to = do
   transfer ← seat.pending
   when (is_phase from transfer.phase) (with_seat core s (with_pending (Some (record transfer { phase = to })) seat))
 
+-- the cell is empty, and the transfer done
 abbrev pub take_done : Core → ℕ → Option Core
 take_done core s = do
   seat ← slice_get core.seats s
   transfer ← seat.pending
   when (is_phase TakenOut transfer.phase) (with_seat (with_cell core transfer.cell Empty) s (with_pending None seat))
 
+-- an empty cell is claimed for a packet that the seat holds
 abbrev pub give_claim : Core → ℕ → ℕ → ℕ → Option Core
 give_claim core s c number = do
   seat ← slice_get core.seats s
   cell ← slice_get core.cells c
   when (is_empty_cell cell && is_none seat.pending && may_go core number seat) (with_seat (with_cell core c (Busy s)) s
-    (with_pending (Some (record { phase = Giving; cell = c; packet = number })) seat))
+      (with_pending (Some (record { phase = Giving; cell = c; packet = number })) seat))
 
 -- the packet of the transfer moves from the seat to the cell
 abbrev pub give_done : Core → ℕ → Option Core
@@ -188,8 +194,9 @@ give_done core s = do
   transfer ← seat.pending
   turn ← turn_of transfer.packet seat
   when (is_phase GivenIn transfer.phase) (with_seat (with_cell core transfer.cell (Full (handed_over transfer.packet turn))) s
-    (with_pending None (letting_go transfer.packet seat)))
+      (with_pending None (letting_go transfer.packet seat)))
 
+-- a seat may begin again where it has no end in use and nothing pending; nothing moves
 abbrev pub restart : Core → ℕ → Option Core
 restart core s = do
   seat ← slice_get core.seats s
@@ -244,35 +251,11 @@ opening_cell number = Full (record { number = number; turn = 0 })
 abbrev pub opened : ℕ → ℕ → List (ℕ × ℕ) → Core
 opened pool seats lanes =
     record {
-      cells = map opening_cell (range_with_len 0 pool); lanes = map (λ ends. free_lane ends.0 ends.1) lanes; seats = replicate seats (idle_seat pool);
+      cells = map opening_cell (range_with_len 0 pool);
+      lanes = map (λ ends. free_lane ends.0 ends.1) lanes;
+      seats = replicate seats (idle_seat pool);
     }
 
 -- a lane joins two different seats
 abbrev pub IsPairOfSeats : ℕ → ℕ × ℕ → Type 0
 IsPairOfSeats seats ends = (ends.0 < seats) × (ends.1 < seats) × (ends.0 ≢ ends.1)
-
--- what stands with an owner: a full cell's packet, the packets of a lane's queue, or a seat's list
-abbrev pub found_at : {X : Type 0} → (X → List Packet) → Option X → List Packet
-found_at packets None = []
-found_at packets (Some x) = packets x
-
-abbrev pub owned_packets : Core → Owner → List Packet
-owned_packets core (Owner.Cell c) = found_at cell_packets (slice_get core.cells c)
-owned_packets core (Owner.Lane i) = found_at queued_packets (slice_get core.lanes i)
-owned_packets core (Owner.Seat s) = found_at held_packets (slice_get core.seats s)
-
--- whether a cell, a place, a lane or a seat has the packet of this number
-abbrev pub cell_has : ℕ → Cell → Bool
-cell_has number Empty = false
-cell_has number (Busy seat) = false
-cell_has number (Full packet) = packet.number == number
-
-abbrev pub place_has : ℕ → Option Packet → Bool
-place_has number None = false
-place_has number (Some packet) = packet.number == number
-
-abbrev pub lane_has : ℕ → LaneState → Bool
-lane_has number lane = list_any (place_has number) lane.queue
-
-abbrev pub seat_has : ℕ → SeatState → Bool
-seat_has number seat = is_some (turn_of number seat)

@@ -1,10 +1,10 @@
 -- What the machine keeps beside Sound: its sizes, and that what is about to be handed over isn't worn.
-use Rattle.std.specs.Prelude.{◌≡◌, ◌≢◌, ℕ, ◌<◌, ◌≤◌, Bool, true, Option, Some, None, IsTrue, List, length, slice_get, All}
+use Rattle.std.specs.Prelude.{◌≡◌, ℕ, ◌<◌, ◌≤◌, Some, IsTrue, length, slice_get, All}
 use Rattle.sn_core.specs.declared.parts.Phase.{Phase}
 use Rattle.sn_core.specs.declared.parts.Phase.TheVariants.{Taking, TakenOut, Giving, GivenIn}
 use Rattle.sn_core.specs.declared.parts.Transfer.{Transfer}
 use Rattle.sn_core.specs.Lane.{LaneState}
-use Rattle.sn_core.specs.Seat.{SeatState, is_fresh}
+use Rattle.sn_core.specs.Seat.{is_fresh}
 use Rattle.sn_core.specs.Core.{Core, pool, standing}
 use Rattle.sn_core.specs.Sound.{turn_at, pending_at, IsSound}
 
@@ -15,6 +15,8 @@ pub record JoinsSeats (seats : ℕ) (lane : LaneState) : Type 0 where
 
 pub record HasShape (core : Core) : Type 0 where
   pub size : pool core ≤ 16384
+  pub lanes : length core.lanes ≤ 16
+  pub seats : length core.seats ≤ 16
   pub ends : All (JoinsSeats (length core.seats)) core.lanes
   pub tables : All (λ seat. length seat.held ≡ pool core) core.seats
   pub total : length (standing core) ≡ pool core

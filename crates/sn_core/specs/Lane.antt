@@ -12,19 +12,28 @@ pub record LaneState : Type 0 where
   pub rx_seat : ℕ
   pub tx : Field
   pub rx : Field
-  pub put : ℕ -- the next position to put
-  pub read : ℕ -- the next position in the word that the receiver writes
-  pub queue : List (Option Packet) -- the published packets from `read` on, with an emptied place as None
-  pub laid : Option ℕ -- the packet that lies in the next place, unpublished
-  pub closes : Option Side -- which end closes
+  pub put : ℕ  -- the next position to put
+  pub read : ℕ  -- the next position in the word that the receiver writes
+  pub queue : List (Option Packet)  -- the published packets from `read` on, with an emptied place as None
+  pub laid : Option ℕ  -- the packet that lies in the next place, unpublished
+  pub closes : Option Side  -- which end closes
 
 -- a lane that nobody has used
 abbrev pub free_lane : ℕ → ℕ → LaneState
 free_lane tx_seat rx_seat =
     record {
-      tx_seat = tx_seat; rx_seat = rx_seat; tx = Absent; rx = Absent; put = 0; read = 0; queue = []; laid = None; closes = None;
+      tx_seat = tx_seat;
+      rx_seat = rx_seat;
+      tx = Absent;
+      rx = Absent;
+      put = 0;
+      read = 0;
+      queue = [];
+      laid = None;
+      closes = None;
     }
 
+-- an end's seat, and its field in the state word
 abbrev pub seat_of : Side → LaneState → ℕ
 seat_of Tx lane = lane.tx_seat
 seat_of Rx lane = lane.rx_seat
@@ -37,6 +46,7 @@ abbrev pub with_field : Side → Field → LaneState → LaneState
 with_field Tx field lane = record lane { tx = field }
 with_field Rx field lane = record lane { rx = field }
 
+-- tests on a field
 abbrev pub is_up : Field → Bool
 is_up Absent = false
 is_up Up = true
@@ -55,6 +65,7 @@ is_free lane = is_absent lane.tx && is_absent lane.rx
 abbrev pub is_down : LaneState → Bool
 is_down lane = not (is_up lane.tx) && not (is_up lane.rx) && not (is_free lane)
 
+-- the end closes the lane
 abbrev pub is_side : Side → Option Side → Bool
 is_side Tx (Some Tx) = true
 is_side Rx (Some Rx) = true
@@ -74,6 +85,7 @@ is_unreleased [] = false
 is_unreleased (None ∷ places) = true
 is_unreleased (Some packet ∷ places) = false
 
+-- the queue once the packet in its first place is taken
 abbrev pub with_first_emptied : List (Option Packet) → List (Option Packet)
 with_first_emptied [] = []
 with_first_emptied (place ∷ places) = None ∷ places
@@ -90,10 +102,11 @@ can_attach side lane = not (is_up (field_of side lane)) && not (is_down lane)
 abbrev pub attached : Side → LaneState → LaneState
 attached side lane = with_field side Up lane
 
--- an end that is up, with nothing half done, goes; it closes where the lane is down then
+-- an end that is up, with nothing half done, goes
 abbrev pub can_detach : Side → LaneState → Bool
 can_detach side lane = is_up (field_of side lane) && not (is_half_done side lane)
 
+-- the end that goes closes the lane where it is down then
 abbrev pub closed_by : Side → Bool → LaneState → LaneState
 closed_by side true lane = record lane { closes = Some side }
 closed_by side false lane = lane
@@ -101,11 +114,11 @@ closed_by side false lane = lane
 abbrev pub detached : Side → LaneState → LaneState
 detached side lane = closed_by side (is_down (with_field side Gone lane)) (with_field side Gone lane)
 
--- the closing end frees the lane once its queue is empty
 abbrev pub is_empty_queue : List (Option Packet) → Bool
 is_empty_queue [] = true
 is_empty_queue (place ∷ places) = false
 
+-- the closing end frees the lane once its queue is empty and nothing is half done
 abbrev pub can_reset : Side → LaneState → Bool
 can_reset side lane = is_side side lane.closes && is_empty_queue lane.queue && is_none lane.laid
 
@@ -119,13 +132,14 @@ can_take lane = is_up lane.rx && is_some (first_packet lane.queue)
 abbrev pub taken : LaneState → LaneState
 taken lane = record lane { queue = with_first_emptied lane.queue }
 
+-- the receiver gives the emptied place back
 abbrev pub can_release : LaneState → Bool
 can_release lane = is_up lane.rx && is_unreleased lane.queue
 
 abbrev pub released : LaneState → LaneState
 released lane = record lane { queue = drop 1 lane.queue; read = lane.read + 1 }
 
--- the closing end does the same
+-- the closing end takes and gives back in the same way
 abbrev pub can_drain : Side → LaneState → Bool
 can_drain side lane = is_side side lane.closes && is_some (first_packet lane.queue)
 
@@ -139,7 +153,7 @@ can_lay lane = is_up lane.tx && is_none lane.laid && nat_lt (lane.put - lane.rea
 abbrev pub with_laid : Option ℕ → LaneState → LaneState
 with_laid laid lane = record lane { laid = laid }
 
--- what was laid joins the queue as these packets
+-- what was laid joins the end of the queue as these packets
 abbrev pub published : List Packet → LaneState → LaneState
 published packets lane =
     record lane { queue = lane.queue ++ map Some packets; put = lane.put + length packets; laid = None }

@@ -1,15 +1,13 @@
 -- One seat: its state, and what events do to it.
-use Rattle.std.specs.Prelude.{ℕ, ◌+◌, Bool, true, false, Option, Some, None, is_some, is_none, option_and_then, List, [], ◌∷◌, slice_get, slice_set, nat_lt, suc, replicate}
+use Rattle.std.specs.Prelude.{ℕ, Bool, false, Option, Some, None, List, [], ◌∷◌, slice_get, slice_set, nat_lt, suc, replicate}
 use Rattle.sn_core.specs.declared.parts.Packet.{Packet}
-use Rattle.sn_core.specs.declared.parts.Phase.{Phase}
-use Rattle.sn_core.specs.declared.parts.Phase.TheVariants.{Taking, TakenOut, Giving, GivenIn}
 use Rattle.sn_core.specs.declared.parts.Transfer.{Transfer}
 use Rattle.sn_core.specs.declared.parts.TheConstants.{MAX_TURN}
 
 -- the state of one seat
 pub record SeatState : Type 0 where
-  pub held : List (Option ℕ) -- for each number of the pool the packet's turn, where the seat holds it
-  pub pending : Option Transfer -- the transfer with a cell that isn't done
+  pub held : List (Option ℕ)  -- for each number of the pool the packet's turn, where the seat holds it
+  pub pending : Option Transfer  -- the transfer with a cell that isn't done
   pub heard : ℕ
   pub said : ℕ
 
@@ -27,6 +25,7 @@ held_packets seat = packets_from 0 seat.held
 abbrev pub idle_seat : ℕ → SeatState
 idle_seat pool = record { held = replicate pool None; pending = None; heard = 0; said = 0 }
 
+-- an entry of the table, if there is one
 abbrev pub joined : {A : Type 0} → Option (Option A) → Option A
 joined None = None
 joined (Some o) = o
@@ -43,6 +42,7 @@ holding packet seat = record seat { held = slice_set seat.held packet.number (So
 abbrev pub letting_go : ℕ → SeatState → SeatState
 letting_go number seat = record seat { held = slice_set seat.held number None }
 
+-- the seat has this transfer pending
 abbrev pub with_pending : Option Transfer → SeatState → SeatState
 with_pending pending seat = record seat { pending = pending }
 

@@ -1,16 +1,12 @@
 -- What holds of the core at every moment: Sound, in seven parts, and what the machine keeps beside it.
-use Rattle.std.specs.Prelude.{◌≡◌, ◌≢◌, ◌↔◌, ℕ, ◌+◌, ◌^◌, ◌<◌, ◌≤◌, Bool, true, ◌||◌, ◌==◌, Option, Some, None, is_some, IsSome, IsTrue, option_map, option_and_then, List, [], length, drop, slice_get, All, count_by, sum_by}
-use Rattle.sn_core.specs.declared.events.Side.{Side}
-use Rattle.sn_core.specs.declared.events.Owner.{Owner}
+use Rattle.std.specs.Prelude.{◌≡◌, ◌≢◌, ◌↔◌, ℕ, ◌+◌, ◌^◌, ◌<◌, ◌≤◌, ◌||◌, ◌==◌, Option, Some, None, is_some, IsSome, IsTrue, option_map, option_and_then, List, [], length, drop, slice_get, All, count_by, sum_by}
 use Rattle.sn_core.specs.declared.parts.TheConstants.{MAX_TURN}
 use Rattle.sn_core.specs.declared.parts.Packet.{Packet}
 use Rattle.sn_core.specs.declared.parts.Field.TheVariants.{Up}
-use Rattle.sn_core.specs.declared.parts.Cell.{Cell}
-use Rattle.sn_core.specs.declared.parts.Cell.TheVariants.{Empty, Busy, Full}
-use Rattle.sn_core.specs.declared.parts.Phase.TheVariants.{Giving, GivenIn}
+use Rattle.sn_core.specs.declared.parts.Cell.TheVariants.{Busy}
 use Rattle.sn_core.specs.declared.parts.Transfer.{Transfer}
 use Rattle.sn_core.specs.Lane.{LaneState, is_up, is_down, is_free, is_unreleased}
-use Rattle.sn_core.specs.Seat.{SeatState, turn_of, is_fresh}
+use Rattle.sn_core.specs.Seat.{SeatState, turn_of}
 use Rattle.sn_core.specs.Core.{Core, pool, standing}
 
 -- how many of these packets have this number

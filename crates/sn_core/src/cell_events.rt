@@ -52,14 +52,16 @@ impl Machine {
         ensures { IsStep (core_of self.old) (Event.GiveClaim seat cell packet) result (core_of self.new) }
     {
         let s = seat as usize;
-        let c = cell as usize;
-        if s >= self.seats.len() || c >= self.cells.len() {
+        if s >= self.seats.len() || cell as usize >= self.cells.len() {
             return Stepped::NotEnabled;
         }
-        if self.cells[c] != Cell::Empty || !self.seats[s].is_idle() || !self.may_go(packet, s) {
+        if self.cells[cell as usize] != Cell::Empty
+            || !self.seats[s].is_idle()
+            || !self.may_go(packet, s)
+        {
             return Stepped::NotEnabled;
         }
-        self.cells[c] = Cell::Busy(seat);
+        self.cells[cell as usize] = Cell::Busy(seat);
         self.seats[s].set_pending(Some(Transfer {
             phase: Phase::Giving,
             cell,

@@ -1,7 +1,8 @@
 // One lane between two seats: its ends, its queue, and what is laid.
 ghost use Rattle.std.specs.Prelude.{◌≡◌, ◌-◌, ◌+◌, ◌<◌, ◌≤◌, ◌^◌, length, IfOk, IsTrue, Some, None, [], ◌∷◌};
 ghost use Rattle.sn_core.specs.Lane.{LaneState, free_lane, seat_of, first_packet, is_unreleased, can_attach, attached, can_detach, detached, can_reset, was_reset, can_take, taken, can_release, released, can_drain, can_drain_release, can_lay, with_laid, published, is_side, with_field, is_down, is_up, is_half_done, field_of};
-ghost use Rattle.sn_core.specs.Core.{lays, has_end, is_in_use, lane_has, place_has};
+ghost use Rattle.sn_core.specs.Core.{lays, has_end, is_in_use};
+ghost use Rattle.sn_core.specs.Found.{lane_has, place_has};
 
 use crate::events::Side;
 use crate::parts::{Field, Packet};
@@ -9,8 +10,11 @@ use std::alloc::{AllocError, Global};
 use std::collections::VecDeque;
 use std::marker::Model;
 
-/// The places of a lane's ring. One of them stays free.
+/// The places of a lane's ring.
 const PLACES: usize = 1024;
+
+/// The most packets in a queue, laid ones included: one place stays free.
+const MOST_QUEUED: u64 = 1023;
 
 /// A lane, with its queue in a ring of `PLACES` places.
 #[derive(Drop)]
@@ -34,8 +38,15 @@ impl Model for Lane {
     ghost Value = { LaneState };
 
     ghost view = { λ lane. record {
-        tx_seat = lane.tx_seat; rx_seat = lane.rx_seat; tx = lane.tx; rx = lane.rx;
-        put = lane.put; read = lane.read; queue = lane.queue.items; laid = lane.laid; closes = lane.closes;
+      tx_seat = lane.tx_seat;
+      rx_seat = lane.rx_seat;
+      tx = lane.tx;
+      rx = lane.rx;
+      put = lane.put;
+      read = lane.read;
+      queue = lane.queue.items;
+      laid = lane.laid;
+      closes = lane.closes;
     } };
 
     ghost invariant = { λ lane. 1024 ≤ deque_capacity lane.queue };
@@ -226,7 +237,7 @@ impl Lane {
         requires { self.now.read ≤ self.now.put }
         ensures { result ≡ can_lay self.now }
     {
-        self.tx == Field::Up && self.laid.is_none() && self.put - self.read < 1023
+        self.tx == Field::Up && self.laid.is_none() && self.put - self.read < MOST_QUEUED
     }
 
     pub fn laid(&self) -> Option<u32>

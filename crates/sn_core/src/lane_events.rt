@@ -119,7 +119,10 @@ impl Machine {
             return Stepped::NotEnabled;
         }
         let seat = self.lanes[i].seat(Side::Tx) as usize;
-        if !self.lanes[i].can_lay() || !self.may_go(packet, seat) || self.seats[seat].claims(packet) {
+        if !self.lanes[i].can_lay()
+            || !self.may_go(packet, seat)
+            || self.seats[seat].claims(packet)
+        {
             return Stepped::NotEnabled;
         }
         self.lanes[i].set_laid(Some(packet));
@@ -142,7 +145,10 @@ impl Machine {
         let Some(turn) = self.seats[seat].turn(number) else {
             return Stepped::NotEnabled;
         };
-        self.lanes[i].publish(Packet { number, turn: turn + 1 });
+        self.lanes[i].publish(Packet {
+            number,
+            turn: turn + 1,
+        });
         self.seats[seat].let_go(number);
         Stepped::Done
     }

@@ -4,22 +4,27 @@
 // - `parts`: packets, the fields of a lane, cells and pending transfers
 // - `lane`: one lane between two seats
 // - `seat`: one seat, with what it holds
-// - `machine`: cells, lanes and seats together, and each event on them
-// - `state`: the machine as callers see it
+// - `machine`: cells, lanes and seats together
+// - `lane_events`, `cell_events`, `seat_events`: each event on the machine
+// - `steps`: one step of the machine, by its event
+// - `owners`: where a packet stands in the machine
+// - `state`: the core as callers see it
 #![tactic(auto)]
 
-mod events;
-mod parts;
-mod lane;
-mod seat;
-mod machine;
-mod lane_events;
-mod seat_events;
 mod cell_events;
-mod steps;
+mod events;
+mod lane;
+mod lane_events;
+mod machine;
 mod owners;
+mod parts;
+mod seat;
+mod seat_events;
 mod state;
+mod steps;
+#[cfg(test)]
+mod tests;
 
 pub use events::{Event, Owner, Side, Stepped};
+pub use parts::{Cell, Field, MAX_TURN, Packet, Phase, Transfer};
 pub use state::CoreState;
-pub use parts::{Cell, Field, Packet, Phase, Transfer, MAX_TURN};

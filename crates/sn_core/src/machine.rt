@@ -2,7 +2,6 @@
 ghost use Rattle.std.specs.Prelude.{◌≡◌, ◌<◌, ◌≤◌, length, IfOk, IsTrue, is_some, Some, None, slice_get, Bool, true, map, replicate};
 ghost use Rattle.sn_core.specs.Core.{Core, opened, opening_cell, may_go, lays, take_first};
 ghost use Rattle.sn_core.specs.Seat.{SeatState, idle_seat, is_fresh, turn_of};
-
 ghost use Rattle.std.specs.List.{list_any, range_with_len};
 ghost use Rattle.sn_core.specs.Lane.{LaneState, first_packet, free_lane};
 ghost use Rattle.sn_core.specs.Kept.{IsKept};
@@ -10,7 +9,7 @@ ghost use Rattle.sn_core.specs.State.{core_of};
 
 use crate::events::Side;
 use crate::lane::Lane;
-use crate::parts::{Cell, Packet, MAX_TURN};
+use crate::parts::{Cell, MAX_TURN, Packet};
 use crate::seat::Seat;
 use std::alloc::{AllocError, Global};
 
@@ -24,7 +23,12 @@ pub struct Machine {
 
 impl Machine {
     /// Cell i holds packet i at turn 0, lanes are free, and seats hold nothing.
-    pub fn open(alloc: Global, pool: u32, seats: u32, lanes: &[(u32, u32)]) -> Result<Machine, AllocError>
+    pub fn open(
+        alloc: Global,
+        pool: u32,
+        seats: u32,
+        lanes: &[(u32, u32)],
+    ) -> Result<Machine, AllocError>
         ensures { IfOk result (λ machine. core_of machine ≡ opened pool seats lanes.now) }
     {
         Ok(Machine {
@@ -34,10 +38,12 @@ impl Machine {
         })
     }
 
-    /// Whether the seat may hand this packet over: it holds the packet, which isn't worn, and no lane has it laid.
+    /// Whether the seat may hand this packet over: it holds the packet, which isn't worn, and no
+    /// lane has it laid.
     pub fn may_go(&self, number: u32, seat: usize) -> bool
         requires { seat < length (core_of self.now).seats }
-        ensures { (state : SeatState) → slice_get (core_of self.now).seats seat ≡ Some state → result ≡ may_go (core_of self.now) number state }
+        ensures { (state : SeatState) → slice_get (core_of self.now).seats seat ≡ Some state →
+            result ≡ may_go (core_of self.now) number state }
     {
         self.is_fresh(number, seat) && !self.is_laid(number)
     }
@@ -45,7 +51,8 @@ impl Machine {
     /// Whether the seat holds the packet, and it isn't worn.
     fn is_fresh(&self, number: u32, seat: usize) -> bool
         requires { seat < length (core_of self.now).seats }
-        ensures { (state : SeatState) → slice_get (core_of self.now).seats seat ≡ Some state → result ≡ is_fresh (turn_of number state) }
+        ensures { (state : SeatState) → slice_get (core_of self.now).seats seat ≡ Some state →
+            result ≡ is_fresh (turn_of number state) }
     {
         match self.seats[seat].turn(number) {
             Some(turn) => turn < MAX_TURN,
@@ -64,8 +71,10 @@ impl Machine {
     pub fn move_first(&mut self, lane: usize, side: Side)
         requires kept { IsKept (core_of self.old) }
         requires lane_in { lane < length (core_of self.old).lanes }
-        ensures { (test : LaneState → Bool) (state : LaneState) → slice_get (core_of self.old).lanes lane ≡ Some state →
-            IsTrue (is_some (first_packet state.queue)) → test state ≡ true → take_first (core_of self.old) lane side test ≡ Some (core_of self.new) }
+        ensures { (test : LaneState → Bool) (state : LaneState) →
+            slice_get (core_of self.old).lanes lane ≡ Some state →
+            IsTrue (is_some (first_packet state.queue)) → test state ≡ true →
+            take_first (core_of self.old) lane side test ≡ Some (core_of self.new) }
     {
         if let Some(packet) = self.lanes[lane].first() {
             let seat = self.lanes[lane].seat(side) as usize;

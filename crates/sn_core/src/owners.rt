@@ -2,7 +2,8 @@
 ghost use Rattle.std.specs.Prelude.{◌≡◌, ◌<◌, position, is_some};
 ghost use Rattle.std.specs.List.{list_any};
 ghost use Rattle.sn_core.specs.declared.events.Owner.{Owner};
-ghost use Rattle.sn_core.specs.Core.{pool, owned_packets, cell_has, place_has, lane_has, seat_has};
+ghost use Rattle.sn_core.specs.Core.{pool};
+ghost use Rattle.sn_core.specs.Found.{owned_packets, cell_has, place_has, lane_has, seat_has};
 ghost use Rattle.sn_core.specs.Sound.{count_of};
 ghost use Rattle.sn_core.specs.Kept.{IsKept};
 ghost use Rattle.sn_core.specs.State.{core_of};

@@ -1,13 +1,15 @@
 // One seat: the packets that it holds, its pending transfer, and the numbers that it said and heard.
 ghost use Rattle.std.specs.Prelude.{◌≡◌, ◌<◌, ◌≤◌, length, IfOk, Some, None, is_none};
 ghost use Rattle.sn_core.specs.Seat.{SeatState, idle_seat, turn_of, holding, letting_go, with_pending};
-ghost use Rattle.sn_core.specs.Core.{claims, seat_has};
+ghost use Rattle.sn_core.specs.Core.{claims};
+ghost use Rattle.sn_core.specs.Found.{seat_has};
 
 use crate::parts::{Packet, Phase, Transfer};
 use std::alloc::{AllocError, Global};
 use std::marker::Model;
 
-/// A seat. Its packets stand in a table over the pool: for each number the turn, where the seat holds that packet.
+/// A seat. Its packets stand in a table over the pool: for each number the turn, where the seat
+/// holds that packet.
 #[derive(Drop)]
 pub struct Seat {
     held: Vec<Option<u64>>,
@@ -22,7 +24,10 @@ impl Model for Seat {
     ghost Value = { SeatState };
 
     ghost view = { λ seat. record {
-        held = seat.held.items; pending = seat.pending; heard = seat.heard; said = seat.said;
+      held = seat.held.items;
+      pending = seat.pending;
+      heard = seat.heard;
+      said = seat.said;
     } };
 }
 
@@ -102,7 +107,9 @@ impl Seat {
     /// Takes this packet from this cell, under a claim.
     pub fn claim(&mut self, packet: Packet, cell: u32)
         requires { packet.number < length self.old.held }
-        ensures { self.new ≡ with_pending (Some (record { phase = Phase.Taking; cell = cell; packet = packet.number })) (holding packet self.old) }
+        ensures { self.new ≡ with_pending
+            (Some (record { phase = Phase.Taking; cell = cell; packet = packet.number }))
+            (holding packet self.old) }
     {
         self.hold(packet);
         self.pending = Some(Transfer {

@@ -78,7 +78,8 @@ impl Machine {
 
     /// A seat's transfer goes on from one phase to another.
     fn go_on(&mut self, seat: u32, from: Phase, to: Phase) -> Stepped
-        ensures done { result ≡ Stepped.Done → go_on (core_of self.old) seat from to ≡ Some (core_of self.new) }
+        ensures done { result ≡ Stepped.Done →
+            go_on (core_of self.old) seat from to ≡ Some (core_of self.new) }
         ensures not_enabled { result ≡ Stepped.NotEnabled → go_on (core_of self.old) seat from to ≡ None }
         ensures unchanged { result ≡ Stepped.NotEnabled → self.new ≡ self.old }
     {
@@ -88,7 +89,10 @@ impl Machine {
         }
         match self.seats[s].pending() {
             Some(transfer) if transfer.phase == from => {
-                self.seats[s].set_pending(Some(Transfer { phase: to, ..transfer }));
+                self.seats[s].set_pending(Some(Transfer {
+                    phase: to,
+                    ..transfer
+                }));
                 Stepped::Done
             }
             _ => Stepped::NotEnabled,

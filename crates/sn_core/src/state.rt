@@ -1,8 +1,8 @@
 // The core as callers see it: it opens, steps by events, and says who owns a packet.
 ghost use Rattle.std.specs.Prelude.{◌≡◌, ◌≢◌, ℕ, ◌<◌, ◌≤◌, length, IfOk, All, is_some, if◌then◌else◌};
-ghost use Rattle.sn_core.specs.Core.{Core, IsStep, opened, pool, all_after, done_count, after, next, IsPairOfSeats, owned_packets};
+ghost use Rattle.sn_core.specs.Core.{Core, IsStep, opened, pool, all_after, done_count, after, next, IsPairOfSeats};
+ghost use Rattle.sn_core.specs.Found.{owned_packets};
 ghost use Rattle.sn_core.specs.Sound.{IsSound, count_of};
-
 ghost use Rattle.sn_core.specs.declared.events.Owner.{Owner};
 
 use crate::events::{Event, Owner, Stepped};
@@ -29,9 +29,15 @@ impl Model for CoreState {
 }
 
 impl CoreState {
-    /// A core with as many packets and seats, and a lane for each pair of a transmitting and a receiving seat: cell i holds
-    /// packet i at turn 0, lanes are free and empty, and seats hold nothing. It has all the memory that it will need.
-    pub fn open(alloc: Global, pool: u32, seats: u32, lanes: &[(u32, u32)]) -> Result<CoreState, AllocError>
+    /// A core with as many packets and seats, and a lane for each pair of a transmitting and a
+    /// receiving seat: cell i holds packet i at turn 0, lanes are free and empty, and seats hold
+    /// nothing. It has all the memory that it will need.
+    pub fn open(
+        alloc: Global,
+        pool: u32,
+        seats: u32,
+        lanes: &[(u32, u32)],
+    ) -> Result<CoreState, AllocError>
         requires pool_least { 1 ≤ pool }
         requires pool_most { pool ≤ 16384 }
         requires seats_least { 1 ≤ seats }
@@ -46,8 +52,8 @@ impl CoreState {
         })
     }
 
-    /// Makes the event where it is enabled. An event that names a cell, lane, seat, worker or packet that isn't there
-    /// isn't enabled.
+    /// Makes the event where it is enabled. An event that names a cell, lane, seat, worker or
+    /// packet that isn't there isn't enabled.
     pub fn step(&mut self, event: Event) -> Stepped
         // Done exactly where the event has a state after it, which is the state then; else nothing changes.
         ensures step { IsStep self.old event result self.new }
@@ -92,7 +98,8 @@ impl CoreState {
     pub fn owner(&self, number: u32) -> Owner
         requires { number < pool self.now }
         ensures stands { count_of number (owned_packets self.now result) ≡ 1 }
-        ensures only { (other : Owner) → 0 < count_of number (owned_packets self.now other) → other ≡ result }
+        ensures only { (other : Owner) →
+            0 < count_of number (owned_packets self.now other) → other ≡ result }
         ensures sound { IsSound self.now }
     {
         self.machine.owner(number)

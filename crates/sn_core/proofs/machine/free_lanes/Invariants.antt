@@ -1,6 +1,5 @@
-use Rattle.std.proofs.Common.{◌≡◌, replicate, map, take}
+use Rattle.std.proofs.Common.{◌≡◌, map, take}
 use Rattle.sn_core.specs.Lane.{free_lane}
-use Rattle.sn_core.specs.Seat.{idle_seat}
 use Rattle.sn_core.proofs.machine.free_lanes.Given as goal
 
 abbrev pub invariant-loop-ends : goal.invariant-loop-ends

@@ -1,8 +1,6 @@
-use Rattle.std.proofs.Common.{rules, ◌≡◌, ◌<◌, ◌≤◌, length, Some, None, slice_get, Bool, true, ℕ, List, arith, refl, sym, ◌∙◌, ap, subst}
+use Rattle.std.proofs.Common.{◌≡◌, ◌<◌, length, Some, arith, sym, ◌∙◌, subst}
 use Rattle.sn_core.specs.State.{core_of}
-use Rattle.sn_core.specs.Lane.{LaneState, seat_of, first_packet, taken}
-use Rattle.sn_core.specs.Seat.{SeatState}
-use Rattle.sn_core.specs.Core.{Core, pool}
+use Rattle.sn_core.specs.Lane.{seat_of, first_packet, taken}
 use Rattle.sn_core.proofs.KeptReads.{end_in, table_is, first_in}
 use Rattle.sn_core.proofs.StepsDone.{take_first_done, read_is, read_at, some_is}
 use Rattle.sn_core.proofs.machine.Machine.move_first.Goals as goal

@@ -1,15 +1,11 @@
-use Rattle.std.proofs.Common.{◌≡◌, ◌<◌, ◌≤◌, length, Some, None, slice_get, Bool, true, ℕ, List, [], ◌∷◌, arith, refl, sym, ◌∙◌, ap, subst, is_none, w64, Fits}
-use Rattle.std.proofs.lemmas.Grind.{common_steps}
-use Rattle.sn_core.specs.declared.parts.Phase.TheVariants.{Taking, TakenOut, GivenIn}
-use Rattle.sn_core.specs.declared.parts.Cell.TheVariants.{Busy, Full}
+use Rattle.std.proofs.Common.{◌≡◌, ◌<◌, length, [], ◌∷◌, arith, sym, ◌∙◌, subst}
 use Rattle.sn_core.specs.State.{core_of}
-use Rattle.sn_core.specs.Lane.{LaneState, published}
-use Rattle.sn_core.specs.Seat.{SeatState, turn_of, with_pending, letting_go, holding}
-use Rattle.sn_core.specs.Core.{Core, pool, is_phase, handed_over}
+use Rattle.sn_core.specs.Lane.{published}
+use Rattle.sn_core.specs.Seat.{letting_go}
+use Rattle.sn_core.specs.Core.{handed_over}
 use Rattle.sn_core.proofs.KeptReads.{end_in, held_in, laid_fresh}
 use Rattle.sn_core.proofs.StepsDone.{publish_done, read_is, read_at}
 use Rattle.sn_core.specs.declared.events.Side.TheVariants.{Tx}
-use Rattle.sn_core.specs.declared.parts.TheConstants.{MAX_TURN}
 use Rattle.sn_core.proofs.machine.Machine.publish.Goals as goal
 
 pub overflow_add-turn : goal.overflow_add-turn

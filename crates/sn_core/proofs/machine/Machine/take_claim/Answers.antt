@@ -1,11 +1,7 @@
-use Rattle.std.proofs.Common.{◌≡◌, ◌<◌, ◌≤◌, length, Some, None, slice_get, Bool, true, ℕ, List, [], ◌∷◌, arith, refl, sym, ◌∙◌, ap, subst, is_none, w64, Fits}
-use Rattle.std.proofs.lemmas.Grind.{common_steps}
-use Rattle.sn_core.specs.declared.parts.Phase.TheVariants.{Taking, TakenOut, GivenIn}
-use Rattle.sn_core.specs.declared.parts.Cell.TheVariants.{Busy, Full}
+use Rattle.std.proofs.Common.{◌≡◌, ◌<◌, length, Some, arith, sym, ◌∙◌, ap, subst}
+use Rattle.sn_core.specs.declared.parts.Phase.TheVariants.{Taking}
 use Rattle.sn_core.specs.State.{core_of}
-use Rattle.sn_core.specs.Lane.{LaneState, published}
-use Rattle.sn_core.specs.Seat.{SeatState, turn_of, with_pending, letting_go, holding}
-use Rattle.sn_core.specs.Core.{Core, pool, is_phase, handed_over}
+use Rattle.sn_core.specs.Seat.{with_pending, holding}
 use Rattle.sn_core.proofs.KeptReads.{cell_packet_in, table_is}
 use Rattle.sn_core.proofs.StepsDone.{take_claim_done, read_is, read_at}
 use Rattle.sn_core.proofs.machine.Machine.take_claim.Goals as goal

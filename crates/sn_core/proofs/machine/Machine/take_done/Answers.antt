@@ -1,11 +1,6 @@
-use Rattle.std.proofs.Common.{◌≡◌, ◌<◌, ◌≤◌, length, Some, None, slice_get, Bool, true, ℕ, List, arith, refl, sym, ◌∙◌, ap, subst, is_none, w64, Fits}
-use Rattle.std.proofs.lemmas.Grind.{common_steps}
-use Rattle.sn_core.specs.declared.parts.Phase.TheVariants.{Taking, TakenOut, GivenIn}
-use Rattle.sn_core.specs.declared.parts.Cell.TheVariants.{Busy, Full}
+use Rattle.std.proofs.Common.{◌≡◌, ◌<◌, length, None, arith, sym, ◌∙◌, subst}
 use Rattle.sn_core.specs.State.{core_of}
-use Rattle.sn_core.specs.Lane.{LaneState, published}
-use Rattle.sn_core.specs.Seat.{SeatState, turn_of, with_pending, letting_go, holding}
-use Rattle.sn_core.specs.Core.{Core, pool, is_phase, handed_over}
+use Rattle.sn_core.specs.Seat.{with_pending}
 use Rattle.sn_core.proofs.KeptReads.{claimed_in}
 use Rattle.sn_core.proofs.StepsDone.{take_done_done, read_is, read_at}
 use Rattle.sn_core.proofs.machine.Machine.take_done.Goals as goal
