@@ -1,7 +1,10 @@
 //! The actions that lead from one configuration to another.
 ghost use Rattle.sn_actions.specs.Diffs.{change, diff_of, is_started, link_change, linking, relinking, removed_links, unlinking};
 ghost use Rattle.sn_actions.specs.declared.action.Action.TheVariants.{StopApp};
-ghost use Rattle.sn_config.specs.Configs.{app_at, has_link};
+ghost use Rattle.sn_actions.specs.Plains.{apply_all, full};
+ghost use Rattle.sn_config.specs.Configs.{IsConfig, app_at, has_link};
+ghost use Rattle.sn_names.specs.LinkOrder.{link_cmp, name_cmp};
+ghost use Rattle.std.specs.List.Sorted.{IsStrictlySortedBy};
 ghost use Rattle.std.specs.Map.{keys_of};
 ghost use Rattle.std.specs.Prelude.{IfOk, OnOk, None, Option, filter, flat_map, is_some, map, not, ◌++◌, ◌≡◌};
 
@@ -19,6 +22,29 @@ use std::collections::{BTreeMap, BTreeSet};
 /// # Errors
 /// Want of memory.
 pub fn diff(alloc: Global, old: &Config, new: &Config) -> Result<Vec<Action>, AllocError>
+    ensures list { IfOk result (λ actions. actions.items ≡ diff_of old.now new.now) }
+
+    // All are taken in order from the full form of the old configuration, and give that of the new one.
+    ensures law { IfOk result (λ actions. apply_all actions.items (full old.now) ≡ Ok (full new.now)) }
+{
+    recall_order(old);
+    recall_order(new);
+    let actions = list_actions(alloc, old, new)?;
+    Ok(actions)
+}
+
+/// Recalls what holds of every configuration, and that sorted maps ascend.
+fn recall_order(config: &Config)
+    ensures valid { IsConfig config.now }
+    ensures links { IsStrictlySortedBy link_cmp config.now.links }
+    ensures apps { IsStrictlySortedBy name_cmp (keys_of config.now.apps) }
+{
+    let _apps = config.apps().len();
+    let _links = config.links().len();
+}
+
+/// The actions, group by group.
+fn list_actions(alloc: Global, old: &Config, new: &Config) -> Result<Vec<Action>, AllocError>
     ensures list { IfOk result (λ actions. actions.items ≡ diff_of old.now new.now) }
 {
     let mut actions = Vec::new(alloc);

@@ -1,11 +1,15 @@
-use Rattle.sn_actions.proofs.Joined.{joined}
+use Rattle.std.proofs.Common.{ap, ◌∙◌}
+use Rattle.std.specs.Map.{keys_of}
+use Rattle.sn_actions.proofs.Law.{leads_to}
+use Rattle.sn_actions.proofs.Once.{apps_once, links_once, names_once}
+use Rattle.sn_actions.specs.Plains.{apply_all, full}
 use Rattle.sn_actions.proofs.differences.diff.Goals as goal
 
-pub returns : goal.returns
-returns c =
-    let unlinked = rw (c.links.ensures.same, c.links-2.ensures.same, c.new-actions.ensures.items) at c.in_ok-unlink_removed.ensures in
-    let stopped = rw (c.apps.ensures.same, c.apps-2.ensures.same) at c.in_ok-stop_removed.ensures in
-    let changed = rw (c.apps-3.ensures.same, c.apps-4.ensures.same) at c.in_ok-change_apps.ensures in
-    record {
-      list = joined _ _ _ _ c.unlink_removed.new.actions.items c.stop_removed.new.actions.items c.change_apps.new.actions.items c.change_links.new.actions.items unlinked stopped changed c.in_ok-change_links.ensures;
-    }
+pub returns-clause-law : goal.returns-clause-law
+returns-clause-law c =
+    ap (λ actions. apply_all actions (full c.args.old.now)) c.in_ok-actions.ensures.list
+    ∙ leads_to c.args.old.now c.args.new.now c.recall_order.ensures.valid c.recall_order-2.ensures.valid
+    (links_once c.args.old.now.links c.recall_order.ensures.links)
+    (links_once c.args.new.now.links c.recall_order-2.ensures.links)
+    (names_once (keys_of c.args.old.now.apps) c.recall_order.ensures.apps)
+    (apps_once c.args.new.now.apps (names_once (keys_of c.args.new.now.apps) c.recall_order-2.ensures.apps))
