@@ -1,0 +1,10 @@
+pub mod Joined
+pub mod Looks
+pub mod Changing
+pub mod Coming
+pub mod Exact
+pub mod Going
+pub mod Maps
+pub mod Once
+pub mod Taken
+pub mod Law
