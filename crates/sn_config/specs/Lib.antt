@@ -1,0 +1,3 @@
+pub mod ArgText
+pub mod Configs
+pub mod Signs

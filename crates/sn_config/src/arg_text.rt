@@ -1,0 +1,160 @@
+//! Arguments as they are written behind a class.
+ghost use Rattle.sn_config.specs.ArgText.{IsArgFault, IsByte, IsFile, IsFileText, IsLane, IsNumber, TakesArg, TakesWord, goes_without, is_file_byte};
+ghost use Rattle.sn_config.specs.Signs.{is_sign};
+ghost use Rattle.std.specs.List.{list_all, list_any};
+ghost use Rattle.std.specs.Option.{option_copied};
+ghost use Rattle.std.specs.Prelude.{IfErr, IfNone, IfOk, IfSome, IsTrue, false, true, ◌++◌, ◌↔◌, ◌∷◌, ◌≡◌};
+
+use crate::ConfigFault;
+use sn_names::{Arg, Class, FileName, Name, NameFault, decimal};
+use std::alloc::Global;
+
+/// The longest packet, in bytes.
+const MOST_BYTES: u64 = 10_240;
+/// The last place of a packet.
+const LAST_PLACE: u64 = 10_239;
+/// The most packets of which one is passed.
+const MOST_PACKETS: u64 = 1_000_000;
+/// The greatest byte.
+const LAST_BYTE: u64 = 255;
+/// The most bytes that a file's name has in a scenario.
+const MOST_FILE_BYTES: usize = 255;
+
+/// The argument that a class takes of what is written behind it, if anything is.
+pub fn read_arg(alloc: Global, class: Class, text: Option<&[u8]>) -> Result<Arg, ConfigFault>
+    ensures taken { IfOk result (TakesArg class (option_copied text.entry)) }
+    ensures refused { IfErr result (IsArgFault (TakesArg class (option_copied text.entry))) }
+{
+    match text {
+        Some(word) => read_word(alloc, class, word),
+        None => no_arg(class),
+    }
+}
+
+/// The argument of a class behind which nothing is written.
+fn no_arg(class: Class) -> Result<Arg, ConfigFault>
+    ensures taken { IfOk result (λ arg. (goes_without class ≡ true) × (arg ≡ Arg.Nothing)) }
+    ensures refused { IfErr result (IsArgFault (λ arg. (goes_without class ≡ true) × (arg ≡ Arg.Nothing))) }
+{
+    match class {
+        Class::Source | Class::Sink | Class::Tee | Class::Join | Class::Split | Class::Repeater => {
+            Ok(Arg::Nothing)
+        }
+        _ => Err(ConfigFault::BadArg),
+    }
+}
+
+/// The argument that a class takes of a word.
+fn read_word(alloc: Global, class: Class, word: &[u8]) -> Result<Arg, ConfigFault>
+    ensures taken { IfOk result (TakesWord class word.now) }
+    ensures refused { IfErr result (IsArgFault (TakesWord class word.now)) }
+{
+    match class {
+        Class::Source | Class::Truncate => number_arg(word, 0, MOST_BYTES),
+        Class::Sample => number_arg(word, 1, MOST_PACKETS),
+        Class::ByteFilter => byte_arg(word),
+        Class::PcapReader | Class::PcapWriter => file_arg(alloc, word),
+        Class::Receiver | Class::Transmitter => lane_arg(alloc, word),
+        Class::Sink | Class::Tee | Class::Join | Class::Split | Class::Repeater => {
+            Err(ConfigFault::BadArg)
+        }
+    }
+}
+
+/// A number within these bounds.
+fn number_arg(word: &[u8], low: u64, high: u64) -> Result<Arg, ConfigFault>
+    ensures taken { IfOk result (IsNumber low high word.now) }
+    ensures refused { IfErr result (IsArgFault (IsNumber low high word.now)) }
+{
+    let Some(number) = decimal(word, high) else {
+        return Err(ConfigFault::BadArg);
+    };
+    if number < low {
+        return Err(ConfigFault::BadArg);
+    }
+    Ok(Arg::Number(number))
+}
+
+/// A place and a byte, with `=` between them.
+fn byte_arg(word: &[u8]) -> Result<Arg, ConfigFault>
+    ensures taken { IfOk result (IsByte word.now) }
+    ensures refused { IfErr result (IsArgFault (IsByte word.now)) }
+{
+    let Some((place, byte)) = split_at_sign(word) else {
+        return Err(ConfigFault::BadArg);
+    };
+    let Some(offset) = decimal(place, LAST_PLACE) else {
+        return Err(ConfigFault::BadArg);
+    };
+    let Some(value) = decimal(byte, LAST_BYTE) else {
+        return Err(ConfigFault::BadArg);
+    };
+    Ok(Arg::Byte {
+        offset: offset as u32,
+        value: value as u8,
+    })
+}
+
+/// What stands before the first `=`, and what stands behind it.
+fn split_at_sign(text: &[u8]) -> Option<(&[u8], &[u8])>
+    ensures cut { IfSome result (λ p. text.now ≡ p.0.now ++ 61 ∷ p.1.now) }
+    ensures first { IfSome result (λ p. list_any is_sign p.0.now ≡ false) }
+    ensures none { IfNone result (list_any is_sign text.now ≡ false) }
+{
+    for (at, byte) in text.iter().enumerate() {
+        if *byte == b'=' {
+            return Some((&text[..at], &text[at + 1..]));
+        }
+    }
+    None
+}
+
+/// A file's name.
+fn file_arg(alloc: Global, word: &[u8]) -> Result<Arg, ConfigFault>
+    ensures taken { IfOk result (IsFile word.now) }
+    ensures refused { IfErr result (IsArgFault (IsFile word.now)) }
+{
+    if !is_file_text(word) {
+        return Err(ConfigFault::BadArg);
+    }
+    match FileName::of(alloc, word) {
+        Ok(name) => Ok(Arg::File(name)),
+        Err(_) => Err(ConfigFault::OutOfMemory),
+    }
+}
+
+/// Whether the bytes are a file's name in a scenario.
+fn is_file_text(word: &[u8]) -> bool
+    ensures { IsTrue result ↔ IsFileText word.now }
+{
+    if word.is_empty() || word.len() > MOST_FILE_BYTES {
+        return false;
+    }
+    are_file_bytes(word)
+}
+
+/// Whether each byte is visible ASCII.
+fn are_file_bytes(word: &[u8]) -> bool
+    ensures { result ≡ list_all is_file_byte word.now }
+{
+    word.iter().all(|byte| may_name_file(*byte))
+}
+
+/// A visible ASCII byte.
+fn may_name_file(byte: u8) -> bool
+    ensures { result ≡ is_file_byte byte }
+{
+    33 <= byte && byte <= 126
+}
+
+/// An interlink's name.
+fn lane_arg(alloc: Global, word: &[u8]) -> Result<Arg, ConfigFault>
+    ensures taken { IfOk result (IsLane word.now) }
+    ensures refused { IfErr result (IsArgFault (IsLane word.now)) }
+{
+    match Name::parse(alloc, word) {
+        Ok(name) => Ok(Arg::Lane(name)),
+        Err(NameFault::At(_)) => Err(ConfigFault::BadArg),
+        Err(NameFault::OutOfMemory) => Err(ConfigFault::OutOfMemory),
+    }
+}

@@ -1,0 +1,14 @@
+//! Configurations: which apps there are, and how they are linked.
+#![tactic(auto)]
+
+mod app_spec;
+mod arg_text;
+mod config;
+mod fault;
+
+pub use app_spec::AppSpec;
+pub use config::Config;
+pub use fault::ConfigFault;
+
+#[cfg(test)]
+mod tests;
