@@ -1,13 +1,18 @@
-// A library with one function.
+//! Actions on a network of apps, and the list of them that leads from one configuration to the next.
 #![tactic(auto)]
 
-ghost use Rattle.std.specs.Prelude.{◌≡◌};
-ghost use Rattle.sn_actions.specs.Echo.{echo_of};
+mod action;
+mod differences;
+mod fault;
+mod kept;
+mod plain;
+mod ports;
+mod same;
 
-// The `ensures` clause is the contract: what `echo` returns is `echo_of` of its argument, a definition
-// in `specs/Echo.antt`, which a caller's clause can cite too.
-pub fn echo(x: usize) -> usize
-    ensures { result ≡ echo_of x }
-{
-    x
-}
+pub use action::Action;
+pub use differences::diff;
+pub use fault::ActionFault;
+pub use plain::Plain;
+
+#[cfg(test)]
+mod tests;

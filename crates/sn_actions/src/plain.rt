@@ -1,0 +1,221 @@
+//! The plain form of a network, and what each action does to it.
+ghost use Rattle.sn_actions.specs.PlainOf.{plain_of};
+ghost use Rattle.sn_actions.specs.Plains.{apply};
+ghost use Rattle.sn_actions.specs.declared.action.Action.TheVariants.{FreeLink, LinkInput, LinkOutput, NewLink, ReconfigApp, StartApp, StopApp, UnlinkInput, UnlinkOutput};
+ghost use Rattle.sn_actions.specs.declared.fault.ActionFault.TheVariants.{OutOfMemory};
+ghost use Rattle.std.specs.FinMap as finmap;
+ghost use Rattle.std.specs.FinSet as finset;
+ghost use Rattle.std.specs.Prelude.{Err, IfErr, Ok, OnErr, OnOk, ◌≡◌, ◌≢◌};
+
+use crate::kept::{has_app, has_link, put_app, put_link, same_class_there, take_app, take_link};
+use crate::ports::{drop_ports, has_port, is_at_a_port, is_at_port, port_key, put_port, take_port};
+use crate::{Action, ActionFault};
+use sn_config::AppSpec;
+use sn_names::{LinkSpec, Name};
+use std::alloc::Global;
+use std::collections::{BTreeMap, BTreeSet};
+
+/// The apps and links of a network, and which link is at which port. A key of `outs` and `ins` is
+/// an app and its port.
+#[derive(Debug, Drop)]
+pub struct Plain {
+    /// The apps.
+    pub apps: BTreeMap<Name, AppSpec>,
+    /// The links.
+    pub links: BTreeSet<LinkSpec>,
+    /// The links at output ports.
+    pub outs: BTreeMap<(Name, Name), LinkSpec>,
+    /// The links at input ports.
+    pub ins: BTreeMap<(Name, Name), LinkSpec>,
+    alloc: Global,
+}
+
+impl Plain {
+    /// The empty plain form.
+    pub fn new(alloc: Global) -> Plain
+        ensures { plain_of result ≡ record { apps = finmap.empty; links = finset.empty; outs = finmap.empty; ins = finmap.empty } }
+    {
+        Plain {
+            apps: BTreeMap::new(alloc),
+            links: BTreeSet::new(alloc),
+            outs: BTreeMap::new(alloc),
+            ins: BTreeMap::new(alloc),
+            alloc,
+        }
+    }
+
+    /// Takes an action.
+    ///
+    /// # Errors
+    /// The first check of the action that fails, else want of memory. The plain form is then as
+    /// before.
+    pub fn apply(&mut self, action: &Action) -> Result<(), ActionFault>
+        ensures ok { OnOk result (apply action.now (plain_of self.old) ≡ Ok (plain_of self.new)) }
+        ensures refused { IfErr result (λ fault. fault ≢ OutOfMemory → apply action.now (plain_of self.old) ≡ Err fault) }
+        ensures err { OnErr result (plain_of self.new ≡ plain_of self.old) }
+    {
+        match action {
+            Action::UnlinkOutput(link) => self.unlink_output(link),
+            Action::UnlinkInput(link) => self.unlink_input(link),
+            Action::FreeLink(link) => self.free_link(link),
+            Action::StopApp(name) => self.stop_app(name),
+            Action::StartApp(name, spec) => self.start_app(name, spec),
+            Action::ReconfigApp(name, spec) => self.reconfig_app(name, spec),
+            Action::NewLink(link) => self.new_link(link),
+            Action::LinkOutput(link) => self.link_output(link),
+            Action::LinkInput(link) => self.link_input(link),
+            Action::Commit => Ok(()),
+        }
+    }
+
+    /// Takes a link from its output port.
+    fn unlink_output(&mut self, link: &LinkSpec) -> Result<(), ActionFault>
+        ensures ok { OnOk result (apply (UnlinkOutput link.now) (plain_of self.old) ≡ Ok (plain_of self.new)) }
+        ensures refused { IfErr result (λ fault. fault ≢ OutOfMemory → apply (UnlinkOutput link.now) (plain_of self.old) ≡ Err fault) }
+        ensures err { OnErr result (plain_of self.new ≡ plain_of self.old) }
+    {
+        let key = port_key(self.alloc, &link.from, &link.out)?;
+        if !is_at_port(&self.outs, &key, link) {
+            return Err(ActionFault::NotLinked);
+        }
+        take_port(&mut self.outs, &key);
+        Ok(())
+    }
+
+    /// Takes a link from its input port.
+    fn unlink_input(&mut self, link: &LinkSpec) -> Result<(), ActionFault>
+        ensures ok { OnOk result (apply (UnlinkInput link.now) (plain_of self.old) ≡ Ok (plain_of self.new)) }
+        ensures refused { IfErr result (λ fault. fault ≢ OutOfMemory → apply (UnlinkInput link.now) (plain_of self.old) ≡ Err fault) }
+        ensures err { OnErr result (plain_of self.new ≡ plain_of self.old) }
+    {
+        let key = port_key(self.alloc, &link.to, &link.input)?;
+        if !is_at_port(&self.ins, &key, link) {
+            return Err(ActionFault::NotLinked);
+        }
+        take_port(&mut self.ins, &key);
+        Ok(())
+    }
+
+    /// Frees a link that is at no port.
+    fn free_link(&mut self, link: &LinkSpec) -> Result<(), ActionFault>
+        ensures ok { OnOk result (apply (FreeLink link.now) (plain_of self.old) ≡ Ok (plain_of self.new)) }
+        ensures refused { IfErr result (λ fault. fault ≢ OutOfMemory → apply (FreeLink link.now) (plain_of self.old) ≡ Err fault) }
+        ensures err { OnErr result (plain_of self.new ≡ plain_of self.old) }
+    {
+        if !has_link(&self.links, link) {
+            return Err(ActionFault::NoLink);
+        }
+        let out = port_key(self.alloc, &link.from, &link.out)?;
+        let input = port_key(self.alloc, &link.to, &link.input)?;
+        if is_at_a_port(&self.outs, &out, &self.ins, &input, link) {
+            return Err(ActionFault::StillLinked);
+        }
+        take_link(&mut self.links, link);
+        Ok(())
+    }
+
+    /// Stops an app, with what is at its ports.
+    fn stop_app(&mut self, name: &Name) -> Result<(), ActionFault>
+        ensures ok { OnOk result (apply (StopApp name.now) (plain_of self.old) ≡ Ok (plain_of self.new)) }
+        ensures refused { IfErr result (λ fault. fault ≢ OutOfMemory → apply (StopApp name.now) (plain_of self.old) ≡ Err fault) }
+        ensures err { OnErr result (plain_of self.new ≡ plain_of self.old) }
+    {
+        if !has_app(&self.apps, name) {
+            return Err(ActionFault::NoApp);
+        }
+        take_app(&mut self.apps, name);
+        drop_ports(&mut self.outs, name);
+        drop_ports(&mut self.ins, name);
+        Ok(())
+    }
+
+    /// Starts an app.
+    fn start_app(&mut self, name: &Name, spec: &AppSpec) -> Result<(), ActionFault>
+        ensures ok { OnOk result (apply (StartApp name.now spec.now) (plain_of self.old) ≡ Ok (plain_of self.new)) }
+        ensures refused { IfErr result (λ fault. fault ≢ OutOfMemory → apply (StartApp name.now spec.now) (plain_of self.old) ≡ Err fault) }
+        ensures err { OnErr result (plain_of self.new ≡ plain_of self.old) }
+    {
+        if has_app(&self.apps, name) {
+            return Err(ActionFault::AppThere);
+        }
+        put_app(
+            &mut self.apps,
+            name.copy(self.alloc)?,
+            spec.copy(self.alloc)?,
+        )?;
+        Ok(())
+    }
+
+    /// Gives an app another argument.
+    fn reconfig_app(&mut self, name: &Name, spec: &AppSpec) -> Result<(), ActionFault>
+        ensures ok { OnOk result (apply (ReconfigApp name.now spec.now) (plain_of self.old) ≡ Ok (plain_of self.new)) }
+        ensures refused { IfErr result (λ fault. fault ≢ OutOfMemory → apply (ReconfigApp name.now spec.now) (plain_of self.old) ≡ Err fault) }
+        ensures err { OnErr result (plain_of self.new ≡ plain_of self.old) }
+    {
+        let Some(same) = same_class_there(&self.apps, name, spec) else {
+            return Err(ActionFault::NoApp);
+        };
+        if !same {
+            return Err(ActionFault::OtherClass);
+        }
+        put_app(
+            &mut self.apps,
+            name.copy(self.alloc)?,
+            spec.copy(self.alloc)?,
+        )?;
+        Ok(())
+    }
+
+    /// Makes a link.
+    fn new_link(&mut self, link: &LinkSpec) -> Result<(), ActionFault>
+        ensures ok { OnOk result (apply (NewLink link.now) (plain_of self.old) ≡ Ok (plain_of self.new)) }
+        ensures refused { IfErr result (λ fault. fault ≢ OutOfMemory → apply (NewLink link.now) (plain_of self.old) ≡ Err fault) }
+        ensures err { OnErr result (plain_of self.new ≡ plain_of self.old) }
+    {
+        if has_link(&self.links, link) {
+            return Err(ActionFault::LinkThere);
+        }
+        put_link(&mut self.links, link.copy(self.alloc)?)?;
+        Ok(())
+    }
+
+    /// Puts a link to its output port.
+    fn link_output(&mut self, link: &LinkSpec) -> Result<(), ActionFault>
+        ensures ok { OnOk result (apply (LinkOutput link.now) (plain_of self.old) ≡ Ok (plain_of self.new)) }
+        ensures refused { IfErr result (λ fault. fault ≢ OutOfMemory → apply (LinkOutput link.now) (plain_of self.old) ≡ Err fault) }
+        ensures err { OnErr result (plain_of self.new ≡ plain_of self.old) }
+    {
+        if !has_link(&self.links, link) {
+            return Err(ActionFault::NoLink);
+        }
+        if !has_app(&self.apps, &link.from) {
+            return Err(ActionFault::NoApp);
+        }
+        let key = port_key(self.alloc, &link.from, &link.out)?;
+        if has_port(&self.outs, &key) {
+            return Err(ActionFault::PortTaken);
+        }
+        put_port(&mut self.outs, key, link.copy(self.alloc)?)?;
+        Ok(())
+    }
+
+    /// Puts a link to its input port.
+    fn link_input(&mut self, link: &LinkSpec) -> Result<(), ActionFault>
+        ensures ok { OnOk result (apply (LinkInput link.now) (plain_of self.old) ≡ Ok (plain_of self.new)) }
+        ensures refused { IfErr result (λ fault. fault ≢ OutOfMemory → apply (LinkInput link.now) (plain_of self.old) ≡ Err fault) }
+        ensures err { OnErr result (plain_of self.new ≡ plain_of self.old) }
+    {
+        if !has_link(&self.links, link) {
+            return Err(ActionFault::NoLink);
+        }
+        if !has_app(&self.apps, &link.to) {
+            return Err(ActionFault::NoApp);
+        }
+        let key = port_key(self.alloc, &link.to, &link.input)?;
+        if has_port(&self.ins, &key) {
+            return Err(ActionFault::PortTaken);
+        }
+        put_port(&mut self.ins, key, link.copy(self.alloc)?)?;
+        Ok(())
+    }
+}
