@@ -7,6 +7,7 @@ mod config;
 mod fault;
 
 pub use app_spec::AppSpec;
+pub use arg_text::read_arg;
 pub use config::Config;
 pub use fault::ConfigFault;
 

@@ -1,0 +1,6 @@
+pub mod Adding
+pub mod Fronts
+pub mod Leaving
+pub mod Lining
+pub mod Planning
+pub mod Running

@@ -1,0 +1,32 @@
+//! Scenarios, read from their text, and what they have each worker do.
+#![tactic(auto)]
+
+mod app_line;
+mod cutting;
+mod draft;
+mod ends;
+mod fault;
+mod files;
+mod kind;
+mod lane;
+mod link_line;
+mod parse;
+mod placed;
+mod plan;
+mod reading;
+mod roster;
+mod scenario;
+mod settings;
+mod shape;
+mod stop;
+mod why;
+
+pub use fault::{ParseFault, ScenarioFault};
+pub use lane::Lane;
+pub use scenario::Scenario;
+pub use settings::Settings;
+pub use stop::StopLine;
+pub use why::Why;
+
+#[cfg(test)]
+mod tests;

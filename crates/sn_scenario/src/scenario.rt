@@ -1,0 +1,73 @@
+//! Scenarios, and what they say.
+ghost use Rattle.std.specs.Option.{option_copied};
+ghost use Rattle.std.specs.Prelude.{◌≡◌};
+
+use crate::placed::Placed;
+use crate::{Lane, Settings, StopLine};
+use sn_names::FileName;
+use std::marker::Model;
+
+/// A scenario: the settings of a run, its interlinks and stops, and the configurations of its
+/// workers.
+#[derive(Debug, Drop)]
+pub struct Scenario {
+    pub(crate) settings: Settings,
+    pub(crate) lanes: Vec<Lane>,
+    pub(crate) journal: Option<FileName>,
+    pub(crate) placed: Vec<Placed>,
+    pub(crate) stops: Vec<StopLine>,
+    pub(crate) captures: Vec<FileName>,
+    pub(crate) outputs: Vec<FileName>,
+}
+
+impl Model for Scenario {
+    ghost use Rattle.sn_scenario.specs.Scenarios.{ScenarioForm};
+
+    ghost Value = { ScenarioForm };
+
+    ghost view = { λ s. record { settings = s.settings; lanes = s.lanes.items; journal = s.journal; placed = s.placed.items; stops = s.stops.items; captures = s.captures.items; outputs = s.outputs.items } };
+}
+
+impl Scenario {
+    /// The settings, with the defaults of those that aren't given.
+    pub fn settings(&self) -> Settings
+        ensures { result ≡ self.now.settings }
+    {
+        self.settings
+    }
+
+    /// The interlinks, in the scenario's order: at most 16.
+    pub fn lanes(&self) -> &[Lane]
+        ensures { result.now ≡ self.now.lanes }
+    {
+        &self.lanes
+    }
+
+    /// The captures that are read, in the bytewise order of their names: at most 16.
+    pub fn captures(&self) -> &[FileName]
+        ensures { result.now ≡ self.now.captures }
+    {
+        &self.captures
+    }
+
+    /// The files that are written, in the bytewise order of their names: at most 16.
+    pub fn outputs(&self) -> &[FileName]
+        ensures { result.now ≡ self.now.outputs }
+    {
+        &self.outputs
+    }
+
+    /// The journal's file, where one is given.
+    pub fn journal(&self) -> Option<&FileName>
+        ensures { option_copied result ≡ self.now.journal }
+    {
+        self.journal.as_ref()
+    }
+
+    /// The stops, in the scenario's order: at most 1,000.
+    pub fn stops(&self) -> &[StopLine]
+        ensures { result.now ≡ self.now.stops }
+    {
+        &self.stops
+    }
+}

@@ -1,0 +1,199 @@
+//! Each fault with its line, and the worked cases.
+use super::*;
+use std::alloc::Global;
+use std::test::Fail;
+
+/// The most bytes of a scenario.
+const MOST_BYTES: usize = 1_048_576;
+
+/// Two configurations, of which the second replaces an app.
+const REPLACED: &[u8] = b"scenario 1
+config 0 0
+app a Source
+app b Sink
+link a.out -> b.in
+end
+config 0 1
+app a Source
+app c Sink
+link a.out -> c.in
+end
+";
+
+const TWICE: &[u8] = b"scenario 1
+config 0 0
+app a Source
+app b Sink
+link a.out->b.in
+link  a.out -> b.in 
+end
+";
+
+const ONCE: &[u8] = b"scenario 1
+config 0 0
+app a Source
+app b Sink
+link a.out->b.in
+end
+";
+
+const SEVENTEEN: &[u8] = b"scenario 1
+workers 2
+interlink a 0 1
+interlink b 0 1
+interlink c 0 1
+interlink d 0 1
+interlink e 0 1
+interlink f 0 1
+interlink g 0 1
+interlink h 0 1
+interlink i 0 1
+interlink j 0 1
+interlink k 0 1
+interlink l 0 1
+interlink m 0 1
+interlink n 0 1
+interlink o 0 1
+interlink p 0 1
+interlink q 0 1
+";
+
+const PORT_TAKEN: &[u8] = b"scenario 1
+config 0 0
+app a Source
+app b Sink
+app c Sink
+link a.out -> b.in
+link a.out -> c.in
+end
+";
+
+/// Texts with the line and the check of their first fault.
+const FAULTY: [(&[u8], u64, Why); 21] = [
+    (b"scenario 1\npool \x01\n", 2, Why::Byte),
+    (b"", 1, Why::Header),
+    (b"scenario 1\n\nscenario 1\n", 3, Why::Word),
+    (b"scenario 1\nend\n", 2, Why::Place),
+    (b"scenario 1\nstop 0 0 0\npool 1\n", 3, Why::Late),
+    (
+        b"scenario 1\nbreaths 1000\nrounds 1000\nstop 9 0 0\n",
+        4,
+        Why::Product,
+    ),
+    (b"# one\nscenario 1\r\n pool 1 2\r\n", 3, Why::Shape),
+    (b"scenario 1\nrounds 0\n", 2, Why::Number),
+    (TWICE, 6, Why::Twice),
+    (b"scenario 1\nworkers 2\ninterlink a- 0 1\n", 3, Why::Name),
+    (b"scenario 1\nstop 1 0 0\n", 2, Why::Worker),
+    (
+        b"scenario 1\nconfig 0 1\nend\nconfig 0 1\nend\n",
+        4,
+        Why::Order,
+    ),
+    (SEVENTEEN, 19, Why::TooMany),
+    (b"scenario 1\nconfig 0 0\napp a Sourc\nend\n", 3, Why::Class),
+    (b"scenario 1\nconfig 0 0\napp a Sink 1\nend\n", 3, Why::Arg),
+    (
+        b"scenario 1\nconfig 0 0\napp a Receiver x\nend\n",
+        3,
+        Why::End,
+    ),
+    (
+        b"scenario 1\njournal f\nconfig 0 0\napp a PcapReader f\nend\n",
+        4,
+        Why::FileUse,
+    ),
+    (
+        b"scenario 1\nconfig 0 0\nlink\ta.out -> b.in\nend\n",
+        3,
+        Why::Link,
+    ),
+    (
+        b"scenario 1\nconfig 0 0\napp a Source\nlink a.out -> b.in\nend\n",
+        4,
+        Why::NoApp,
+    ),
+    (PORT_TAKEN, 7, Why::PortTaken),
+    (b"scenario 1\nconfig 0 0", 3, Why::NoEnd),
+];
+
+fn fault_of(alloc: Global, text: &[u8]) -> Option<ScenarioFault> {
+    if text.len() > MOST_BYTES {
+        return None;
+    }
+    match Scenario::parse(alloc, text) {
+        Err(ParseFault::Bad(fault)) => Some(fault),
+        _ => None,
+    }
+}
+
+/// A line of these words and as many further bytes.
+fn long_text(alloc: Global, words: &[u8], count: usize) -> Result<Vec<u8>, Fail> {
+    let mut text = b"scenario 1\n".to_vec(alloc)?;
+    text.extend_from_slice(words)?;
+    for _ in 0..count {
+        text.push(b'1')?;
+    }
+    Ok(text)
+}
+
+#[test]
+fn finds_each_fault_and_its_line(rt: HostRuntime) -> Result<(), Fail> {
+    for (text, line, why) in FAULTY {
+        assert_eq!(rt;
+            fault_of(rt.alloc(), text),
+            Some(ScenarioFault { line, why })
+        );
+    }
+    let long = long_text(rt.alloc(), b"pool ", 1020)?;
+    let why = Why::Long;
+    assert_eq!(rt;
+        fault_of(rt.alloc(), &long),
+        Some(ScenarioFault { line: 2, why })
+    );
+    let file = long_text(rt.alloc(), b"journal ", 256)?;
+    let why = Why::FileBad;
+    assert_eq!(rt;
+        fault_of(rt.alloc(), &file),
+        Some(ScenarioFault { line: 2, why })
+    );
+    assert_eq!(rt; Why::TooMany.word(), "too-many");
+    Ok(())
+}
+
+#[test]
+fn reads_defaults_and_takes_a_link_once(rt: HostRuntime) -> Result<(), Fail> {
+    assert!(rt; ONCE.len() < MOST_BYTES);
+    let once = Scenario::parse(rt.alloc(), ONCE)?;
+    assert!(rt; once.stops().is_empty());
+    let scenario = Scenario::parse(rt.alloc(), b"scenario 1\n")?;
+    let defaults = Settings {
+        pool: 4096,
+        workers: 1,
+        breaths: 100,
+        rounds: 10,
+        restarts: 0,
+    };
+    assert_eq!(rt; scenario.settings(), defaults);
+    assert!(rt; scenario.journal().is_none());
+    assert_eq!(rt; scenario.lanes().len(), 0);
+    assert_eq!(rt; scenario.stops().len(), 0);
+    assert_eq!(rt; scenario.captures().len(), 0);
+    assert_eq!(rt; scenario.outputs().len(), 0);
+    Ok(())
+}
+
+#[test]
+fn plans_a_replaced_app(rt: HostRuntime) -> Result<(), Fail> {
+    assert!(rt; REPLACED.len() < MOST_BYTES);
+    let scenario = Scenario::parse(rt.alloc(), REPLACED)?;
+    let settings = scenario.settings();
+    assert!(rt; settings.workers > 0);
+    assert_eq!(rt; scenario.plan(rt.alloc(), 0)?.len(), 15);
+    assert_eq!(rt; scenario.due(rt.alloc(), 0, 0)?, 6);
+    assert_eq!(rt; scenario.due(rt.alloc(), 0, 1)?, 15);
+    let roster = scenario.roster(rt.alloc(), 0)?;
+    assert_eq!(rt; roster.apps.len(), 3);
+    assert_eq!(rt; roster.links.len(), 2);
+    Ok(())
+}
