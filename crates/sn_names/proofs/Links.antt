@@ -128,7 +128,7 @@ nothing_then : (rest : List ℕ) → left [] rest ≡ None → rest ≡ []
 nothing_then [] e = refl
 nothing_then (x ∷ xs) e = cc
 
-pub link_came : (t : List ℕ) → left link_parts t ≡ None → IsSomeLinkText t
+link_came : (t : List ℕ) → left link_parts t ≡ None → IsSomeLinkText t
 link_came t e =
     let before = spaces_then (port_parts (arrow_parts (port_parts (Spaces ∷ [])))) t e in
     let from = port_then (arrow_parts (port_parts (Spaces ∷ []))) before.rest before.goes in

@@ -1,4 +1,5 @@
-//! The names of a scenario: files and numbers, as they stand in its text.
+//! What the lines of a scenario are made of: numbers, names of files, apps, ports and interlinks,
+//! links, classes and arguments. A roster has the names that a worker's rows are numbered by.
 #![tactic(auto)]
 
 mod arg;

@@ -2,9 +2,10 @@
 ghost use Rattle.sn_names.specs.FirstFault.{IsFirstFault};
 ghost use Rattle.sn_names.specs.LinkOrder.{link_cmp};
 ghost use Rattle.sn_names.specs.LinkText.{AreNames, IsLinkText, IsSomeLinkText, canonical_text};
+ghost use Rattle.sn_names.specs.Parts.{left, link_parts};
 ghost use Rattle.std.specs.Cmp.Lexicographic.{slice_cmp};
 ghost use Rattle.std.specs.Ordering.{nat_cmp};
-ghost use Rattle.std.specs.Prelude.{IfErr, IfOk, OnErr, OnOk, length, vec_capacity, vec_len, ℕ, ◌+◌, ◌++◌, ◌≡◌, ◌≤◌};
+ghost use Rattle.std.specs.Prelude.{IfErr, IfOk, None, OnErr, OnOk, Some, length, vec_capacity, vec_len, ℕ, ◌+◌, ◌++◌, ◌-◌, ◌≡◌, ◌≤◌};
 
 use crate::link_text::split_link;
 use crate::{Name, NameFault};
@@ -38,6 +39,10 @@ impl LinkSpec {
         ensures read { IfOk result (λ link. IsLinkText text.now link) }
         ensures only { IfOk result (λ link. (other : LinkSpec) → IsLinkText text.now other → other ≡ link) }
         ensures fault { IfErr result (λ fault. (n : ℕ) → fault ≡ NameFault.At n → IsFirstFault IsSomeLinkText text.now n) }
+        // The text goes on to its end as the parts of a link.
+        ensures whole { OnOk result (left link_parts text.now ≡ None) }
+        // It goes on so up to the fault, and the bytes from there on are left.
+        ensures rest { IfErr result (λ fault. (n : ℕ) → fault ≡ NameFault.At n → left link_parts text.now ≡ Some (length text.now - n)) }
     {
         let (from, to) = match split_link(text) {
             Ok(ports) => ports,

@@ -2,8 +2,7 @@
 use Rattle.std.proofs.Common.{Bool, List, None, Option, Some, [], ap, append_assoc, arith, cond, false, is_none, length, refl, suc, sym, true, zero, ℕ, ◌++◌, ◌<◌, ◌∙◌, ◌∷◌, ◌≡◌, not}
 use Rattle.std.proofs.lemmas.Bool.{and_parts}
 use Rattle.std.specs.List.{list_all}
-use Rattle.sn_names.proofs.Links.{link_came, link_goes}
-use Rattle.sn_names.specs.LinkText.{IsLinkText, IsSomeLinkText}
+use Rattle.sn_names.specs.LinkText.{IsLinkText}
 use Rattle.sn_names.specs.NameText.{IsName, is_name_byte}
 use Rattle.sn_names.specs.Parts.{left, link_parts, starts}
 use Rattle.sn_names.specs.Spelled.{port_text, spaces}
@@ -81,21 +80,16 @@ link_names text link h =
     ∙ runs_port link.to link.input (spaces h.after) h.to_name h.input_name (no_name_end h.after)
     ∙ ap (λ more. link.to ∷ link.input ∷ more) (runs_end h.after))
 
-abbrev link_by : Option LinkSpec → Option ℕ → Option LinkSpec
-link_by link rest = cond (is_none rest) link None
+abbrev link_by : List ℕ → Option ℕ → Option LinkSpec
+link_by text rest = cond (is_none rest) (link_of_names (runs is_name_byte text)) None
 
-pub link_found : (text : List ℕ) (link : LinkSpec) → IsLinkText text link → link_of text ≡ Some link
+pub link_found : (text : List ℕ) (link : LinkSpec) → IsLinkText text link → left link_parts text ≡ None → link_of text ≡ Some link
 unfolding link_of
-link_found text link h =
-    ap (link_by (link_of_names (runs is_name_byte text))) (link_goes text (link, h)) ∙ ap link_of_names (link_names text link h)
+link_found text link h e = ap (link_by text) e ∙ ap link_of_names (link_names text link h)
 
-link_none_by : (text : List ℕ) (rest : Option ℕ) → left link_parts text ≡ rest → (IsSomeLinkText text → ⊥) → link_by (link_of_names (runs is_name_byte text)) rest ≡ None
-link_none_by text None e h = absurd (h (link_came text e))
-link_none_by text (Some n) e h = refl
-
-pub link_none : (text : List ℕ) → (IsSomeLinkText text → ⊥) → link_of text ≡ None
+pub link_none : (text : List ℕ) (rest : ℕ) → left link_parts text ≡ Some rest → link_of text ≡ None
 unfolding link_of
-link_none text h = link_none_by text (left link_parts text) refl h
+link_none text rest e = ap (link_by text) e
 
 -- a line's tokens, by the first of them
 skip_blanks : (xs : List ℕ) → runs is_token_byte xs ≡ runs is_token_byte (behind is_blank xs)
@@ -159,7 +153,5 @@ front_starts p (x ∷ xs) h = front_by (p x) h
 pub none_token : (line : List ℕ) → length (first_token line) ≡ 0 → tokens line ≡ []
 none_token line h =
     tokens_cut line ∙ ap (λ b. cond b (first_token line ∷ tokens (behind_token line)) []) (front_starts is_token_byte (behind is_blank line) h)
-
-pub ruleset links = (link_found, link_none)
 
 pub ruleset cuts = (some_token, none_token)

@@ -123,7 +123,7 @@ pub(crate) fn arg_of(alloc: Global, class: Class, text: Option<&[u8]>) -> Result
 }
 
 /// The link that a text spells.
-#[tactic(auto, using(crate::proofs::Running::links))]
+#[tactic(auto, using(crate::proofs::Running::link_found))]
 pub(crate) fn link_of(alloc: Global, text: &[u8]) -> Result<LinkSpec, LineFault>
     ensures { Gives (λ l. l) result (needed fault.Link (link_of text.now)) }
 {

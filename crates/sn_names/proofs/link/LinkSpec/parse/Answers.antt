@@ -1,5 +1,5 @@
-use Rattle.std.proofs.Common.{length, rules, subst, ◌-◌, ◌≡◌}
-use Rattle.sn_names.proofs.Links.{left_within, link_first_fault, one_link}
+use Rattle.std.proofs.Common.{Some, ap, arith, length, rules, subst, ◌-◌, ◌∙◌, ◌≡◌}
+use Rattle.sn_names.proofs.Links.{left_within, link_first_fault, link_goes, one_link}
 use Rattle.sn_names.specs.FirstFault.{IsFirstFault}
 use Rattle.sn_names.specs.LinkText.{IsSomeLinkText}
 use Rattle.sn_names.proofs.link.LinkSpec.parse.Goals as goal
@@ -11,6 +11,15 @@ pub returns-in-Err-clause-fault : goal.returns-in-Err-clause-fault
 returns-in-Err-clause-fault c n e =
     let same : length c.args.text.now - c.in-Err.rest ≡ n = cc in
     subst (IsFirstFault IsSomeLinkText c.args.text.now) same (link_first_fault c.args.text.now c.in-Err.rest c.in-Err.ensures.fault)
+
+pub returns-in-Err-clause-rest : goal.returns-in-Err-clause-rest
+returns-in-Err-clause-rest c n e =
+    let within = left_within c.args.text.now c.in-Err.rest c.in-Err.ensures.fault in
+    let at : length c.args.text.now - c.in-Err.rest ≡ n = cc in
+    c.in-Err.ensures.fault ∙ ap Some (omega arith)
+
+pub returns-clause-whole : goal.returns-clause-whole
+returns-clause-whole c = link_goes c.args.text.now (_, c.in-Ok.ensures.link)
 
 pub returns-clause-only : goal.returns-clause-only
 returns-clause-only c other h = one_link c.args.text.now other _ h (search rules)
