@@ -4,3 +4,4 @@ pub mod Leaving
 pub mod Lining
 pub mod Planning
 pub mod Running
+pub mod Spelling

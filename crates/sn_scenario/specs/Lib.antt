@@ -10,6 +10,7 @@ pub mod LaneLines
 pub mod Leaves
 pub mod LinkLines
 pub mod Parsing
+pub mod PlainText
 pub mod Plans
 pub mod Results
 pub mod ScenarioText

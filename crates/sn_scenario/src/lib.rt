@@ -12,6 +12,7 @@ mod lane;
 mod link_line;
 mod parse;
 mod placed;
+mod plain;
 mod plan;
 mod reading;
 mod roster;
@@ -23,6 +24,7 @@ mod why;
 
 pub use fault::{ParseFault, ScenarioFault};
 pub use lane::Lane;
+pub use plain::plain_text;
 pub use scenario::Scenario;
 pub use settings::Settings;
 pub use stop::StopLine;
