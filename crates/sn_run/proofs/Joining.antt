@@ -6,13 +6,13 @@ use Rattle.sn_outside.specs.Contents.{Contents}
 use Rattle.sn_outside.specs.declared.files.FileCall.{FileCall}
 use Rattle.sn_pcap.specs.Places.{payloads_of}
 use Rattle.sn_pcap.specs.Written.{written}
-use Rattle.sn_run.specs.Causes.{FileEnds, RunEnds, EndsHungry, EndsWritten, HasScenario, HasCapture, Cause, RefusesScenario, RefusesCapture, most_scenario, most_capture, both_reads, with_files}
+use Rattle.sn_run.specs.Causes.{FileEnds, RunEnds, EndsHungry, EndsWritten, HasScenario, HasCapture, Cause, RefusesCapture, most_scenario, most_capture, both_reads, with_files}
 use Rattle.sn_run.specs.Copying.{Copying}
 use Rattle.sn_run.specs.Reported.{RunReport, report_of, most_read, copied}
 use Rattle.sn_run.specs.Seen.{seen, Made, Kept, Found, IsLonger, Rises, ReadGave, a_read}
 use Rattle.sn_run.specs.Steps.{StepEnds, GaveScenario, GaveCapture, WriteEnds}
 use Rattle.sn_run.specs.declared.status.Status.{Status}
-use Rattle.sn_run.specs.declared.status.Status.TheVariants.{Drained, RoundsUsed, BadWords, NotYet, BadPcap, ReadFault, TooLong, WriteFault, PrintFault, OutOfMemory}
+use Rattle.sn_run.specs.declared.status.Status.TheVariants.{Drained, RoundsUsed, Done, BadWords, NoWorker, BadScenario, NotYet, BadPcap, ReadFault, TooLong, WriteFault, PrintFault, OutOfMemory}
 
 module _ (tells : Bool) (m0 m1 m2 : Contents) (k0 k1 k2 : List FileCall) (f0 f1 f2 : ℕ) where
   found_through : (name : List ℕ) (limit : ℕ) (bytes : List ℕ) → Kept (seen tells m0 m1 k0 k1 f0 f1) → Found (seen tells m1 m2 k1 k2 f1 f2) name limit bytes → Found (seen tells m0 m2 k0 k2 f0 f2) name limit bytes
@@ -35,7 +35,20 @@ module _ (tells : Bool) (m0 m1 m2 : Contents) (k0 k1 k2 : List FileCall) (f0 f1 
     file_ends_through : (name : List ℕ) (limit : ℕ) (Refuses : List ℕ → Status → Type 0) (status : Status) → FileEnds (seen tells m1 m2 k1 k2 f1 f2) [] name limit Refuses status → FileEnds (seen tells m0 m2 k0 k2 f0 f2) (a_read earlier (Ok tt) ∷ []) name limit Refuses status
     file_ends_through name limit Refuses Drained ends = ends
     file_ends_through name limit Refuses (RoundsUsed n) ends = ends
+    file_ends_through name limit Refuses Done ends = ends
     file_ends_through name limit Refuses BadWords ends = ends
+    file_ends_through name limit Refuses (NoWorker n) ends = record {
+      bytes = ends.bytes;
+      found = found_through name limit ends.bytes gave.kept ends.found;
+      refused = ends.refused;
+      made = made_through _ _ gave.made ends.made;
+    }
+    file_ends_through name limit Refuses (BadScenario fault) ends = record {
+      bytes = ends.bytes;
+      found = found_through name limit ends.bytes gave.kept ends.found;
+      refused = ends.refused;
+      made = made_through _ _ gave.made ends.made;
+    }
     file_ends_through name limit Refuses (NotYet n) ends = record {
       bytes = ends.bytes;
       found = found_through name limit ends.bytes gave.kept ends.found;
@@ -56,7 +69,7 @@ module _ (tells : Bool) (m0 m1 m2 : Contents) (k0 k1 k2 : List FileCall) (f0 f1 
 
   module _ (file : List ℕ) (c : Copying) (gave : GaveScenario (seen tells m0 m1 k0 k1 f0 f1) file c) where
     scenario_had : HasScenario (seen tells m0 m2 k0 k2 f0 f2) file c
-    scenario_had = record { text = gave.text; found = record { told = gave.gave.found.told; short = gave.gave.found.short }; is = gave.is }
+    scenario_had = record { text = gave.text; found = record { told = gave.gave.found.told; short = gave.gave.found.short }; read = gave.read; is = gave.is }
 
     -- the capture ends the run
     pub capture_ends : (name : List ℕ) (ended status : Status) (report : Option RunReport) → name ≡ c.input → StepEnds (seen tells m1 m2 k1 k2 f1 f2) name most_capture (RefusesCapture name) ended → status ≡ ended → report ≡ None → Cause (seen tells m0 m2 k0 k2 f0 f2) file report status
@@ -113,7 +126,10 @@ module _ (tells : Bool) (m0 m2 m3 : Contents) (k0 k2 k3 : List FileCall) (f0 f2 
   run_ends_through : (name : List ℕ) (told : RunReport) (status : Status) → RunEnds (seen tells m2 m3 k2 k3 f2 f3) [] name told status → RunEnds (seen tells m0 m3 k0 k3 f0 f3) prior name told status
   run_ends_through name told Drained ends = (written_through name told ends.0, ends.1)
   run_ends_through name told (RoundsUsed n) ends = (written_through name told ends.0, ends.1, ends.2)
+  run_ends_through name told Done ends = ends
   run_ends_through name told BadWords ends = ends
+  run_ends_through name told (NoWorker n) ends = ends
+  run_ends_through name told (BadScenario fault) ends = ends
   run_ends_through name told (NotYet n) ends = ends
   run_ends_through name told (BadPcap n fault) ends = ends
   run_ends_through name told (ReadFault n) ends = ends
@@ -138,7 +154,7 @@ module _ (tells : Bool) (m0 m1 m2 m3 : Contents) (k0 k1 k2 k3 : List FileCall) (
   all_made = both_made tells m0 m1 m2 k0 k1 k2 f0 f1 f2 file c gave input capture named read
 
   scenario_had3 : HasScenario (seen tells m0 m3 k0 k3 f0 f3) file c
-  scenario_had3 = record { text = gave.text; found = record { told = gave.gave.found.told; short = gave.gave.found.short }; is = gave.is }
+  scenario_had3 = record { text = gave.text; found = record { told = gave.gave.found.told; short = gave.gave.found.short }; read = gave.read; is = gave.is }
 
   capture_had3 : HasCapture (seen tells m0 m3 k0 k3 f0 f3) c.input (payloads_of capture)
   capture_had3 =
@@ -176,7 +192,10 @@ module _ (tells : Bool) (m0 m1 m2 m3 : Contents) (k0 k1 k2 k3 : List FileCall) (
   write_ends : (output : List ℕ) (told : RunReport) (report : Option RunReport) (status : Status) → output ≡ c.output → told ≡ report_of c (payloads_of capture) → WriteEnds (seen tells m2 m3 k2 k3 f2 f3) output told report status → Cause (seen tells m0 m3 k0 k3 f0 f3) file report status
   write_ends output told report Drained at is ends = run_ended output told report Drained at is ends.0 ends.1
   write_ends output told report (RoundsUsed n) at is ends = run_ended output told report (RoundsUsed n) at is ends.0 ends.1
+  write_ends output told report Done at is ends = absurd ends.1
   write_ends output told report BadWords at is ends = absurd ends.1
+  write_ends output told report (NoWorker n) at is ends = absurd ends.1
+  write_ends output told report (BadScenario fault) at is ends = absurd ends.1
   write_ends output told report (NotYet n) at is ends = absurd ends.1
   write_ends output told report (BadPcap n fault) at is ends = absurd ends.1
   write_ends output told report (ReadFault n) at is ends = absurd ends.1

@@ -1,7 +1,10 @@
+pub mod Answering
+pub mod Calling
 pub mod CopySteps
 pub mod Expecting
 pub mod Forming
 pub mod Joining
 pub mod Lining
+pub mod Single
 pub mod Taking
 pub mod Wording

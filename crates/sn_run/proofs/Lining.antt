@@ -115,3 +115,12 @@ same_number_line words max text m n r s small a b =
 
 pub same_file_line : (words text v r w s : List ℕ) → IsFileLine words text v r → IsFileLine words text w s → (v ≡ w) × (r ≡ s)
 same_file_line words text v r w s a b = same_line words text v r w s (file_line_is words text v r a) (file_line_is words text w s b)
+
+-- no worker where the word is no number up to 15
+pub no_worker : (text : List ℕ) → ((n : ℕ) → IsDecimal text 15 n → ⊥) → (worker : ℕ) → worker ≤ 15 → text ≡ decimal worker → ⊥
+no_worker text none worker small is =
+    none worker (record {
+      digits = is;
+      short = rw is (length-decimal-le 10 worker (omega arith) (omega arith) (omega arith));
+      within = small;
+    })

@@ -1,10 +1,24 @@
--- A command of two words.
-use Rattle.std.proofs.Common.{◌≡◌, ℕ, List, [], ◌∷◌, length, get_or, map, sym, ap, ◌∙◌, arith}
+-- Words ask for one command.
+use Rattle.std.proofs.Common.{◌≡◌, ℕ, List, refl, sym, ap, ◌∙◌, arith}
+use Rattle.std.specs.Fmt.{decimal}
+use Rattle.sn_run.specs.Commands.{IsCommandOf, IsInBounds, words_for}
+use Rattle.sn_run.specs.declared.command.Command.{Command}
+use Rattle.sn_run.specs.declared.command.Command.TheVariants.{Run, Check, Actions}
+use Rattle.sn_run.proofs.Lining.{same_number}
 
--- a list of two is its two elements
-pub two_words : {E : Type 0} (spelled : E → List ℕ) (words : List E) (a b : E) (x y : List ℕ) → length words ≡ 2 → a ≡ get_or words 0 a → b ≡ get_or words 1 b → spelled a ≡ x → spelled b ≡ y → map spelled words ≡ x ∷ y ∷ []
-two_words spelled [] a b x y two first second is are = absurd (omega arith)
-two_words spelled (v ∷ []) a b x y two first second is are = absurd (omega arith)
-two_words spelled (v ∷ w ∷ []) a b x y two first second is are =
-    ap (λ z. z ∷ spelled w ∷ []) (ap spelled (sym first) ∙ is) ∙ ap (λ z. x ∷ z ∷ []) (ap spelled (sym second) ∙ are)
-two_words spelled (v ∷ w ∷ z ∷ zs) a b x y two first second is are = absurd (omega arith)
+-- the words name one file and one command
+one_words : (f g : List ℕ) (c d : Command) → IsInBounds c → IsInBounds d → words_for f c ≡ words_for g d → (f ≡ g) × (c ≡ d)
+one_words f g Run Run b e same = (cc, refl)
+one_words f g Run Check b e same = cc
+one_words f g Run (Actions n) b e same = cc
+one_words f g Check Run b e same = cc
+one_words f g Check Check b e same = (cc, refl)
+one_words f g Check (Actions n) b e same = cc
+one_words f g (Actions m) Run b e same = cc
+one_words f g (Actions m) Check b e same = cc
+one_words f g (Actions m) (Actions n) b e same =
+    let digits : decimal m ≡ decimal n = cc in
+    (cc, ap Actions (same_number m n (omega (arith, b)) (omega (arith, e)) digits))
+
+pub one_asked : (words : List (List ℕ)) (f g : List ℕ) (c d : Command) → IsCommandOf words f c → IsCommandOf words g d → (f ≡ g) × (c ≡ d)
+one_asked words f g c d a b = one_words f g c d a.bounds b.bounds (sym a.words_are ∙ b.words_are)

@@ -1,9 +1,11 @@
 -- What the top call says of its answer.
 use Rattle.std.specs.Prelude.{ℕ, true, ◌<◌, ◌≡◌, List, Option, Some, None, unwrap_or}
-use Rattle.sn_run.specs.Causes.{IsRunOf, HasScenario, HasCapture, with_files}
+use Rattle.sn_run.specs.Causes.{HasScenario, HasCapture, with_files}
+use Rattle.sn_run.specs.Commands.{IsCommandOf}
 use Rattle.sn_run.specs.Copying.{Copying}
 use Rattle.sn_run.specs.Reported.{RunReport, IsRun}
 use Rattle.sn_run.specs.Seen.{Seen, Rises}
+use Rattle.sn_run.specs.declared.command.Command.TheVariants.{Run}
 use Rattle.sn_run.specs.declared.status.Ended.{Ended}
 use Rattle.sn_run.specs.declared.status.Status.{Status}
 use Rattle.sn_run.specs.declared.status.Status.TheVariants.{Drained, RoundsUsed, ReadFault, WriteFault}
@@ -15,7 +17,7 @@ answer_of ended = unwrap_or ended.replaced ended.status
 -- The report is that of a run of the scenario and the capture that this call read.
 pub record Headline (w : Seen) (words : List (List ℕ)) (report : RunReport) : Type 0 where
   pub file : List ℕ
-  pub command : IsRunOf words file
+  pub asked : IsCommandOf words file Run
   pub c : Copying
   pub records : List (List ℕ)
   pub scenario : HasScenario w file c

@@ -1,5 +1,5 @@
--- What stands behind each answer of a run: the words, what the files held, and the count of their faults.
-use Rattle.std.specs.Prelude.{ℕ, true, ◌<◌, ◌≤◌, ◌≡◌, ◌⊎◌, List, [], ◌∷◌, ◌++◌, length, codes, Result, Ok, Err, Option, Some, None}
+-- What stands behind each answer of a run: what the files held, and the count of their faults.
+use Rattle.std.specs.Prelude.{ℕ, true, ◌<◌, ◌≤◌, ◌≡◌, ◌⊎◌, List, [], ◌∷◌, ◌++◌, Result, Ok, Err, Option, Some, None}
 use Rattle.std.specs.FinMap.{get, insert}
 use Rattle.sn_outside.specs.Contents.{Contents}
 use Rattle.sn_outside.specs.declared.fault.FileFault.{FileFault}
@@ -7,20 +7,15 @@ use Rattle.sn_outside.specs.declared.fault.FileFault.TheVariants.{Failed, TooLon
 use Rattle.sn_outside.specs.declared.files.FileCall.{FileCall}
 use Rattle.sn_pcap.specs.Faults.{HasFault}
 use Rattle.sn_pcap.specs.Grammar.{PcapText}
+use Rattle.sn_scenario.specs.ScenarioText.{scenario_of}
+use Rattle.sn_scenario.specs.Scenarios.{ScenarioForm}
 use Rattle.sn_run.specs.Copying.{Copying, IsScenario}
 use Rattle.sn_run.specs.Reported.{RunReport, WrittenFile, IsRun}
 use Rattle.sn_run.specs.Seen.{Seen, Made, Kept, Found, IsLonger, Rises, a_read, a_write}
+use Rattle.sn_run.specs.declared.command.Command.{Command}
+use Rattle.sn_run.specs.declared.command.Command.TheVariants.{Run, Check, Actions}
 use Rattle.sn_run.specs.declared.status.Status.{Status}
-use Rattle.sn_run.specs.declared.status.Status.TheVariants.{Drained, RoundsUsed, BadWords, NotYet, BadPcap, ReadFault, TooLong, WriteFault, OutOfMemory}
-
--- the words are `run FILE`, with a name of 1 to 4096 bytes
-pub record IsRunOf (words : List (List ℕ)) (file : List ℕ) : Type 0 where
-  pub words_are : words ≡ codes "run" ∷ file ∷ []
-  pub filled : 1 ≤ length file
-  pub short : length file ≤ 4096
-
-abbrev pub IsCommand : List (List ℕ) → Type 0
-IsCommand words = (file : List ℕ) × IsRunOf words file
+use Rattle.sn_run.specs.declared.status.Status.TheVariants.{Drained, RoundsUsed, NoWorker, BadScenario, NotYet, BadPcap, ReadFault, TooLong, WriteFault, OutOfMemory}
 
 -- the most bytes of a scenario and of a capture
 abbrev pub most_scenario : ℕ
@@ -57,20 +52,47 @@ pub record EndsHungry (w : Seen) (prior : List FileCall) (name : List ℕ) : Typ
 abbrev pub FileEnds : Seen → List FileCall → List ℕ → ℕ → (List ℕ → Status → Type 0) → Status → Type 0
 FileEnds w prior name limit Refuses (ReadFault answered) = EndsUnread w prior name Failed answered × Rises w
 FileEnds w prior name limit Refuses (TooLong answered) = EndsUnread w prior name Long answered × IsLonger w name limit
+FileEnds w prior name limit Refuses (BadScenario fault) = EndsRefused w prior name limit Refuses (BadScenario fault)
+FileEnds w prior name limit Refuses (NoWorker n) = EndsRefused w prior name limit Refuses (NoWorker n)
 FileEnds w prior name limit Refuses (NotYet answered) = EndsRefused w prior name limit Refuses (NotYet answered)
 FileEnds w prior name limit Refuses (BadPcap answered fault) = EndsRefused w prior name limit Refuses (BadPcap answered fault)
 FileEnds w prior name limit Refuses OutOfMemory = EndsHungry w prior name
 FileEnds w prior name limit Refuses _ = ⊥
 
--- the text is no scenario of the form
-abbrev pub NoScenario : List ℕ → Type 0
-NoScenario text = (c : Copying) → IsScenario text c → ⊥
+-- the text is one of a scenario
+abbrev pub IsScenarioText : List ℕ → Type 0
+IsScenarioText text = (form : ScenarioForm) × (scenario_of text ≡ Ok form)
 
--- the answers with which a scenario's text and a capture's bytes are refused
-abbrev pub RefusesScenario : List ℕ → List ℕ → Status → Type 0
-RefusesScenario file text (NotYet answered) = (answered ≡ file) × NoScenario text
-RefusesScenario file text _ = ⊥
+-- the text is one of a scenario that doesn't run yet
+pub record IsNotYet (text : List ℕ) : Type 0 where
+  pub read : IsScenarioText text
+  pub none : (c : Copying) → IsScenario text c → ⊥
 
+-- the text is one of a scenario without this worker
+pub record LacksWorker (text : List ℕ) (worker : ℕ) : Type 0 where
+  pub form : ScenarioForm
+  pub read : scenario_of text ≡ Ok form
+  pub few : form.settings.workers ≤ worker
+
+-- a run alone is refused as not yet, and the actions alone for want of a worker
+abbrev pub RefusesRun : Command → List ℕ → List ℕ → List ℕ → Type 0
+RefusesRun Run file text answered = (answered ≡ file) × IsNotYet text
+RefusesRun Check file text answered = ⊥
+RefusesRun (Actions worker) file text answered = ⊥
+
+abbrev pub RefusesWorker : Command → List ℕ → ℕ → Type 0
+RefusesWorker Run text n = ⊥
+RefusesWorker Check text n = ⊥
+RefusesWorker (Actions worker) text n = (n ≡ worker) × LacksWorker text worker
+
+-- the answers with which a command over a file refuses its text
+abbrev pub RefusesText : Command → List ℕ → List ℕ → Status → Type 0
+RefusesText command file text (BadScenario fault) = scenario_of text ≡ Err fault
+RefusesText command file text (NotYet answered) = RefusesRun command file text answered
+RefusesText command file text (NoWorker n) = RefusesWorker command text n
+RefusesText command file text _ = ⊥
+
+-- the answers with which a capture's bytes are refused
 abbrev pub RefusesCapture : List ℕ → List ℕ → Status → Type 0
 RefusesCapture name bytes (BadPcap answered fault) = (answered ≡ name) × HasFault bytes fault
 RefusesCapture name bytes _ = ⊥
@@ -79,6 +101,7 @@ RefusesCapture name bytes _ = ⊥
 pub record HasScenario (w : Seen) (file : List ℕ) (c : Copying) : Type 0 where
   pub text : List ℕ
   pub found : Found w file most_scenario text
+  pub read : IsScenarioText text
   pub is : IsScenario text c
 
 -- the file held a capture of these records
@@ -96,7 +119,7 @@ abbrev pub with_files : Contents → List WrittenFile → Contents
 with_files before [] = before
 with_files before (file ∷ files) = with_files (insert before file.name file.bytes) files
 
--- all files were written, and so much was left
+-- all files were written
 pub record EndsWritten (w : Seen) (prior : List FileCall) (name : List ℕ) (report : RunReport) : Type 0 where
   pub written : w.tells ≡ true → w.after ≡ with_files w.before report.files
   pub made : Made w (prior ++ a_write name (Ok tt) ∷ [])
@@ -124,7 +147,7 @@ pub record AfterScenario (w : Seen) (file : List ℕ) (status : Status) : Type 0
 pub record Before (w : Seen) (file : List ℕ) (report : Option RunReport) (status : Status) : Type 0 where
   pub none : report ≡ None
   pub kept : Kept w
-  pub ends : FileEnds w [] file most_scenario (RefusesScenario file) status ⊎ AfterScenario w file status
+  pub ends : FileEnds w [] file most_scenario (RefusesText Run file) status ⊎ AfterScenario w file status
 
 -- the run was made whole, and there is its report
 pub record After (w : Seen) (file : List ℕ) (report : Option RunReport) (status : Status) : Type 0 where
@@ -140,21 +163,3 @@ pub record After (w : Seen) (file : List ℕ) (report : Option RunReport) (statu
 -- what stands behind an answer of `run FILE`
 abbrev pub Cause : Seen → List ℕ → Option RunReport → Status → Type 0
 Cause w file report status = Before w file report status ⊎ After w file report status
-
--- the words are no command, and nothing was called
-pub record NoCommand (w : Seen) (words : List (List ℕ)) (report : Option RunReport) (status : Status) : Type 0 where
-  pub none : IsCommand words → ⊥
-  pub is : status ≡ BadWords
-  pub no_report : report ≡ None
-  pub kept : Kept w
-  pub made : Made w []
-
--- the words are a command, and this stands behind its answer
-pub record Commanded (w : Seen) (words : List (List ℕ)) (report : Option RunReport) (status : Status) : Type 0 where
-  pub file : List ℕ
-  pub command : IsRunOf words file
-  pub cause : Cause w file report status
-
--- the whole course of a call: what its words, and what the files held and answered, make of it
-abbrev pub Course : Seen → List (List ℕ) → Option RunReport → Status → Type 0
-Course w words report status = NoCommand w words report status ⊎ Commanded w words report status

@@ -1,6 +1,7 @@
 -- The scenarios of the one form that runs so far: one worker copies a capture.
 use Rattle.std.specs.Prelude.{ℕ, ◌*◌, ◌<◌, ◌≤◌, ◌≡◌, ◌≢◌, List, [], ◌∷◌, ◌++◌, length, codes, slice_index}
 use Rattle.std.specs.Fmt.{decimal}
+use Rattle.sn_scenario.specs.PlainText.{plain_text}
 
 -- rounds of breaths, the capture that is read and the file that is written
 pub record Copying : Type 0 where
@@ -55,7 +56,11 @@ pub record IsCopying (c : Copying) : Type 0 where
   pub output : IsToken c.output
   pub apart : c.input ≢ c.output
 
--- the text is this scenario of the form
-pub record IsScenario (text : List ℕ) (c : Copying) : Type 0 where
+-- the plain text spells this scenario of the form
+pub record IsSpelled (plain : List ℕ) (c : Copying) : Type 0 where
   pub bounds : IsCopying c
-  pub spelled : text ≡ copying_text c
+  pub spelled : plain ≡ copying_text c
+
+-- the text's significant lines are those of this scenario, up to spacing
+abbrev pub IsScenario : List ℕ → Copying → Type 0
+IsScenario text c = IsSpelled (plain_text text) c

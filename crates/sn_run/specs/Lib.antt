@@ -1,6 +1,11 @@
+pub mod ActionTexts
+pub mod Alone
 pub mod Answers
+pub mod Calls
 pub mod Causes
+pub mod Commands
 pub mod Copying
+pub mod Courses
 pub mod Exit
 pub mod Expected
 pub mod Lines

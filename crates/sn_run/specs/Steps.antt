@@ -1,16 +1,19 @@
 -- What the steps of a run answer, one by one.
-use Rattle.std.specs.Prelude.{ℕ, ◌==◌, ◌≡◌, if◌then◌else◌, List, [], Option, Some, None}
+use Rattle.std.specs.Prelude.{ℕ, ◌==◌, ◌≡◌, if◌then◌else◌, List, [], Ok, Err, Option, Some, None}
 use Rattle.sn_outside.specs.declared.fault.FileFault.{FileFault}
 use Rattle.sn_outside.specs.declared.fault.FileFault.TheVariants.{Failed, TooLong as Long, OutOfMemory as NoMemory}
 use Rattle.sn_pcap.specs.Grammar.{PcapText}
 use Rattle.sn_pcap.specs.Places.{payloads_of}
-use Rattle.sn_run.specs.Causes.{most_scenario, most_capture, FileEnds, RunEnds}
+use Rattle.sn_scenario.specs.ScenarioText.{scenario_of}
+use Rattle.sn_scenario.specs.Scenarios.{ScenarioForm}
+use Rattle.sn_run.specs.Causes.{IsScenarioText, RefusesText, most_scenario, most_capture, FileEnds, RunEnds}
 use Rattle.sn_run.specs.Copying.{Copying, IsScenario}
 use Rattle.sn_run.specs.Reported.{RunReport}
 use Rattle.sn_run.specs.Seen.{Seen, Kept, Made, ReadGave}
 use Rattle.sn_run.specs.Texts.{text_of}
+use Rattle.sn_run.specs.declared.command.Command.{Command}
 use Rattle.sn_run.specs.declared.status.Status.{Status}
-use Rattle.sn_run.specs.declared.status.Status.TheVariants.{Drained, RoundsUsed, ReadFault, TooLong, WriteFault, OutOfMemory}
+use Rattle.sn_run.specs.declared.status.Status.TheVariants.{Drained, RoundsUsed, BadScenario, ReadFault, TooLong, WriteFault, OutOfMemory}
 
 -- the answer is this one, or want of memory
 abbrev pub IsOrHungry : Status → Status → Type 0
@@ -28,10 +31,27 @@ pub record StepEnds (w : Seen) (name : List ℕ) (limit : ℕ) (Refuses : List �
   pub kept : Kept w
   pub ends : FileEnds w [] name limit Refuses status
 
--- one read gave the text of this scenario
+-- the text isn't read as a scenario
+abbrev pub IsBadText : List ℕ → Status → Type 0
+IsBadText text (BadScenario fault) = scenario_of text ≡ Err fault
+IsBadText text OutOfMemory = Unit {0}
+IsBadText text status = ⊥
+
+-- one read gave this text of this scenario
+pub record GaveText (w : Seen) (file text : List ℕ) (form : ScenarioForm) : Type 0 where
+  pub gave : ReadGave w file most_scenario text
+  pub is : scenario_of text ≡ Ok form
+
+-- a file ended a command in this step, whichever it was, with no file changed
+pub record TextEnds (w : Seen) (file : List ℕ) (status : Status) : Type 0 where
+  pub kept : Kept w
+  pub ends : (command : Command) → FileEnds w [] file most_scenario (RefusesText command file) status
+
+-- one read gave the text of this scenario of the form
 pub record GaveScenario (w : Seen) (file : List ℕ) (c : Copying) : Type 0 where
   pub text : List ℕ
   pub gave : ReadGave w file most_scenario text
+  pub read : IsScenarioText text
   pub is : IsScenario text c
 
 -- one read gave this capture

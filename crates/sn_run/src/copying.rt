@@ -1,10 +1,11 @@
 //! The scenarios of the one form that runs so far, read from their text.
-ghost use Rattle.sn_run.specs.Copying.{Copying, IsScenario, IsToken};
+ghost use Rattle.sn_run.specs.Copying.{Copying, IsScenario, IsSpelled, IsToken};
 ghost use Rattle.sn_run.specs.Reported.{most_read};
 ghost use Rattle.std.specs.Prelude.{IfNone, IfOk, IfSome, ◌≡◌};
 
 use crate::lines::{file_line, is_same, number_line};
 use sn_names::{FileName, NameFault};
+use sn_scenario::plain_text;
 use std::alloc::{AllocError, Global};
 use std::marker::Model;
 
@@ -28,10 +29,10 @@ struct Values<'a> {
     output: &'a [u8],
 }
 
-/// The values that stand in a text of the form.
+/// The values that stand in a plain text of the form.
 fn values_of(text: &[u8]) -> Option<Values<'_>>
-    ensures found { IfSome result (λ v. IsScenario text.now (record { breaths = v.breaths; rounds = v.rounds; input = v.input.now; output = v.output.now })) }
-    ensures none { IfNone result ((c : Copying) → IsScenario text.now c → ⊥) }
+    ensures found { IfSome result (λ v. IsSpelled text.now (record { breaths = v.breaths; rounds = v.rounds; input = v.input.now; output = v.output.now })) }
+    ensures none { IfNone result ((c : Copying) → IsSpelled text.now c → ⊥) }
 {
     let Some((breaths, rest)) = number_line(text, BEFORE_BREATHS, 1000) else {
         return None;
@@ -103,7 +104,8 @@ pub(crate) fn copying_of(alloc: Global, text: &[u8]) -> Result<Option<CopyRun>, 
     ensures found { IfOk result (λ found. IfSome found (IsScenario text.now)) }
     ensures none { IfOk result (λ found. IfNone found ((c : Copying) → IsScenario text.now c → ⊥)) }
 {
-    let Some(values) = values_of(text) else {
+    let plain = plain_text(alloc, text)?;
+    let Some(values) = values_of(&plain) else {
         return Ok(None);
     };
     let input = token_name(alloc, values.input)?;

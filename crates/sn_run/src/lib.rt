@@ -1,6 +1,9 @@
-//! The run of a scenario, from the words of the command to the bytes written.
+//! The commands over a scenario, from their words to the bytes written and the text printed.
 #![tactic(auto)]
 
+mod action_text;
+mod alone;
+mod answer;
 mod command;
 mod copy;
 mod copying;

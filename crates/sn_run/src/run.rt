@@ -4,27 +4,14 @@ ghost use Rattle.sn_run.specs.Seen.{seen};
 ghost use Rattle.sn_run.specs.Texts.{text_of};
 ghost use Rattle.std.specs.Prelude.{ℕ, List, ◌≡◌};
 
+use crate::answer::{Answer, hungry, refused};
 use crate::copy::copy_capture;
 use crate::copying::CopyRun;
-use crate::reading::{Refusal, read_capture, read_scenario};
-use crate::writing::{Answer, hungry, write_output};
+use crate::reading::{read_capture, read_scenario};
+use crate::writing::write_output;
 use sn_names::FileName;
 use sn_outside::Files;
 use std::alloc::Global;
-
-/// The answer that ends a run before anything is written.
-fn refused(refusal: Refusal) -> Answer
-    ensures status { result.status ≡ refusal.status }
-    ensures report { result.report ≡ None }
-    ensures text { result.text.items ≡ refusal.text.items }
-{
-    let Refusal { status, text } = refusal;
-    Answer {
-        status,
-        report: None,
-        text,
-    }
-}
 
 /// Runs the scenario that a file holds.
 pub(crate) fn run_file<F: Files>(alloc: Global, file: FileName, files: &mut F) -> Answer

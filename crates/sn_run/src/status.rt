@@ -5,6 +5,7 @@ ghost use Rattle.std.specs.Prelude.{◌≡◌};
 use crate::Report;
 use sn_names::FileName;
 use sn_pcap::PcapFault;
+use sn_scenario::ScenarioFault;
 
 /// What became of the command.
 #[derive(Debug, Drop)]
@@ -13,8 +14,14 @@ pub enum Status {
     Drained,
     /// The rounds were used up, and so much was left.
     RoundsUsed(u64),
+    /// The scenario was read, and what was asked of it is printed.
+    Done,
     /// The words are no command.
     BadWords,
+    /// The scenario doesn't have this worker.
+    NoWorker(u32),
+    /// The file holds no scenario, and this is its first fault.
+    BadScenario(ScenarioFault),
     /// The scenario isn't of the one form that runs so far.
     NotYet(FileName),
     /// The file is no capture, and this is its first fault.
@@ -38,10 +45,12 @@ impl Status {
         ensures { result ≡ exit_number self.now }
     {
         match self {
-            Status::Drained => 0,
+            Status::Drained | Status::Done => 0,
             Status::BadWords => 1,
             Status::ReadFault(_) | Status::TooLong(_) => 2,
             Status::WriteFault(_) | Status::PrintFault => 2,
+            Status::NoWorker(_) => 3,
+            Status::BadScenario(_) => 3,
             Status::NotYet(_) => 3,
             Status::BadPcap(_, _) => 3,
             Status::RoundsUsed(_) => 4,

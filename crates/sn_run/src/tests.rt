@@ -139,6 +139,11 @@ fn bad_words(rt: HostRuntime) -> Result<(), Fail> {
         &["run"][..],
         &["run", "a", "b"][..],
         &["run", ""][..],
+        &["check"][..],
+        &["actions", "s"][..],
+        &["actions", "s", "16"][..],
+        &["actions", "s", "01"][..],
+        &["actions", "s", "0", "1"][..],
         &[][..],
     ] {
         let mut files = files(rt.alloc(), Vec::new(rt.alloc()), &[])?;
@@ -147,6 +152,18 @@ fn bad_words(rt: HostRuntime) -> Result<(), Fail> {
         assert_eq!(rt; out.taken(), usage.as_bytes());
         assert_eq!(rt; files.calls().len(), 0);
     }
+    Ok(())
+}
+
+#[test]
+fn sink_fails_while_actions_are_printed(rt: HostRuntime) -> Result<(), Fail> {
+    let alloc = rt.alloc();
+    let held = vec![in alloc; ("s", Vec::from_slice(alloc, REPLACED.as_bytes())?)]?;
+    let mut files = files(alloc, held, &[])?;
+    let (ended, out) = run(&rt, &["actions", "s", "0"], &mut files, &[3])?;
+    assert!(rt; matches!(ended.status, Status::PrintFault));
+    assert!(rt; matches!(ended.replaced, Some(Status::Done)));
+    assert_eq!(rt; out.taken(), "1 start_app a ".as_bytes());
     Ok(())
 }
 
@@ -237,4 +254,124 @@ fn refusals_name_their_file(rt: HostRuntime) -> Result<(), Fail> {
     expect_refusal(&rt, held, &[3], "cannot write out.pcap\n", 2)?;
     let long = vec![in alloc; ("s", vec![in alloc; b'#'; 1_048_577]?)]?;
     expect_refusal(&rt, long, &[], "too long s\n", 2)
+}
+
+/// Two configurations of a worker, of which the second has another app.
+const REPLACED: &str =
+    "scenario 1\nconfig 0 0\napp a Source\napp b Sink\nlink a.out -> b.in\nend\nconfig 0 1\napp a Source\napp c Sink\nlink a.out -> c.in\nend\n";
+
+/// Two configurations of a worker, of which the second has another class of app.
+const OTHER_CLASS: &str =
+    "scenario 1\nconfig 0 0\napp a Source\napp b Sink\nlink a.out -> b.in\nend\nconfig 0 1\napp a Source\napp b Tee\nlink a.out -> b.in\nend\n";
+
+/// What brings the first of both configurations about.
+const FIRST_SIX: &str =
+    "1 start_app a Source\n2 start_app b Sink\n3 new_link a.out -> b.in\n4 link_output a.out -> b.in\n5 link_input a.out -> b.in\n6 commit\n";
+
+/// Runs a command over a file `s` of this text alone, and expects this text and exit status of it.
+fn expect_text<R: Threads + Sync + Abort + AllocGlobal>(
+    rt: &R,
+    texts: &[&str],
+    scenario: &str,
+    text: &str,
+    number: u8,
+) -> Result<(), Fail> {
+    let alloc = rt.alloc();
+    let held = vec![in alloc; ("s", Vec::from_slice(alloc, scenario.as_bytes())?)]?;
+    let mut files = files(alloc, held, &[])?;
+    let (ended, out) = run(rt, texts, &mut files, &[])?;
+    assert_eq!(rt; out.taken(), text.as_bytes());
+    assert_eq!(rt; ended.status.number(), number);
+    assert!(rt; ended.report.is_none());
+    assert_eq!(rt; files.calls().len(), 1);
+    Ok(())
+}
+
+#[test]
+fn plan_app_replaced(rt: HostRuntime) -> Result<(), Fail> {
+    let text = format!(in rt.alloc();
+        "{FIRST_SIX}7 unlink_output a.out -> b.in\n8 unlink_input a.out -> b.in\n9 free_link a.out -> b.in\n10 stop_app b\n11 start_app c Sink\n12 new_link a.out -> c.in\n13 link_output a.out -> c.in\n14 link_input a.out -> c.in\n15 commit\n"
+    )?;
+    expect_text(&rt, &["actions", "s", "0"], REPLACED, text.as_str(), 0)
+}
+
+#[test]
+fn plan_class_changed(rt: HostRuntime) -> Result<(), Fail> {
+    let text = format!(in rt.alloc();
+        "{FIRST_SIX}7 stop_app b\n8 start_app b Tee\n9 link_input a.out -> b.in\n10 commit\n"
+    )?;
+    expect_text(&rt, &["actions", "s", "0"], OTHER_CLASS, text.as_str(), 0)
+}
+
+#[test]
+fn arguments_are_printed(rt: HostRuntime) -> Result<(), Fail> {
+    let scenario =
+        "scenario 1\nworkers 2\ninterlink x 1 0\nconfig 1 0\napp a Source 60\napp b ByteFilter 7=255\napp c PcapWriter out.pcap\napp d Transmitter x\nend\n";
+    let text =
+        "1 start_app a Source 60\n2 start_app b ByteFilter 7=255\n3 start_app c PcapWriter out.pcap\n4 start_app d Transmitter x\n5 commit\n";
+    expect_text(&rt, &["actions", "s", "1"], scenario, text, 0)?;
+    expect_text(&rt, &["actions", "s", "0"], scenario, "", 0)
+}
+
+#[test]
+fn link_twice(rt: HostRuntime) -> Result<(), Fail> {
+    let twice =
+        "scenario 1\nconfig 0 0\napp a Source\napp b Sink\nlink a.out->b.in\nlink  a.out -> b.in \nend\n";
+    let once = "scenario 1\nconfig 0 0\napp a Source\napp b Sink\nlink a.out->b.in\nend\n";
+    let text = "scenario line 6 twice\n";
+    expect_text(&rt, &["check", "s"], twice, text, 3)?;
+    expect_text(&rt, &["actions", "s", "9"], twice, text, 3)?;
+    expect_text(&rt, &["run", "s"], twice, text, 3)?;
+    expect_text(&rt, &["check", "s"], once, "ok\n", 0)
+}
+
+#[test]
+fn too_long_and_no_worker(rt: HostRuntime) -> Result<(), Fail> {
+    let alloc = rt.alloc();
+    for texts in [&["check", "s"][..], &["actions", "s", "0"][..]] {
+        let long = vec![in alloc; ("s", vec![in alloc; b'#'; 1_048_577]?)]?;
+        let mut files = files(alloc, long, &[])?;
+        let (ended, out) = run(&rt, texts, &mut files, &[])?;
+        assert_eq!(rt; out.taken(), "too long s\n".as_bytes());
+        assert_eq!(rt; ended.status.number(), 2);
+    }
+    let two = "scenario 1\nworkers 2\n";
+    expect_text(&rt, &["actions", "s", "3"], two, "no worker 3\n", 3)?;
+    expect_text(&rt, &["actions", "s", "2"], two, "no worker 2\n", 3)?;
+    expect_text(&rt, &["actions", "s", "1"], two, "", 0)
+}
+
+#[test]
+fn not_yet_is_of_runs_alone(rt: HostRuntime) -> Result<(), Fail> {
+    for scenario in [
+        "scenario 1\n",
+        "scenario 1\npool 4096\nbreaths 10\nrounds 1\nconfig 0 0\napp r PcapReader in.pcap\napp w PcapWriter out.pcap\nlink r.output -> w.input\nend\n",
+        "scenario 1\nrounds 1\nbreaths 10\nconfig 0 0\napp r PcapReader in.pcap\napp w PcapWriter out.pcap\nlink r.output -> w.input\nend\n",
+        "scenario 1\nbreaths 10\nrounds 1\nconfig 0 1\napp r PcapReader in.pcap\napp w PcapWriter out.pcap\nlink r.output -> w.input\nend\n",
+    ] {
+        expect_text(&rt, &["run", "s"], scenario, "not yet s\n", 3)?;
+        expect_text(&rt, &["check", "s"], scenario, "ok\n", 0)?;
+    }
+    Ok(())
+}
+
+#[test]
+fn spacing_is_free(rt: HostRuntime) -> Result<(), Fail> {
+    let alloc = rt.alloc();
+    let text =
+        "# copies\n\n scenario\t1\r\nbreaths  10\nrounds 1 \n\tconfig 0 0\napp r  PcapReader in.pcap\napp w PcapWriter out.pcap\n# on\nlink   r.output->w.input\nend";
+    let held = vec![in alloc;
+        ("s", Vec::from_slice(alloc, text.as_bytes())?),
+        ("in.pcap", capture(alloc, &[60])?),
+    ]?;
+    let mut files = files(alloc, held, &[])?;
+    let (ended, out) = run(&rt, &["run", "s"], &mut files, &[])?;
+    assert!(rt; matches!(ended.status, Status::Drained));
+    assert_eq!(rt; out.taken(), "status drained\n".as_bytes());
+    let want = capture(alloc, &[60])?;
+    assert_eq!(rt;
+        files.bytes(&name(alloc, "out.pcap")?),
+        Some(want.as_slice())
+    );
+    Ok(())
 }

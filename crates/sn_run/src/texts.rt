@@ -6,6 +6,7 @@ ghost use Rattle.std.specs.Prelude.{List, [], ◌∷◌, ◌++◌, IfOk, ◌≡�
 use crate::Status;
 use sn_names::{FileName, push_decimal};
 use sn_pcap::PcapFault;
+use sn_scenario::ScenarioFault;
 use std::alloc::{AllocError, Global};
 
 /// What is printed where the words are no command.
@@ -61,6 +62,18 @@ fn capture_text(alloc: Global, name: &FileName, fault: PcapFault) -> Result<Vec<
     Ok(text)
 }
 
+/// The line for a text that is no scenario.
+fn scenario_text(alloc: Global, fault: ScenarioFault) -> Result<Vec<u8>, AllocError>
+    ensures { IfOk result (λ text. text.items ≡ text_of (Status.BadScenario fault)) }
+{
+    let mut text = Vec::from_slice(alloc, b"scenario line ")?;
+    push_decimal(&mut text, fault.line)?;
+    text.push(b' ')?;
+    text.extend_from_slice(fault.why.word().as_bytes())?;
+    text.push(b'\n')?;
+    Ok(text)
+}
+
 /// The text of an answer.
 ///
 /// # Errors
@@ -72,6 +85,9 @@ pub(crate) fn status_text(alloc: Global, status: &Status) -> Result<Vec<u8>, All
         Status::Drained => line_of(alloc, b"status drained", b""),
         Status::RoundsUsed(left) => number_of(alloc, b"status rounds-used ", *left),
         Status::BadWords => Vec::from_slice(alloc, USAGE),
+        Status::Done => line_of(alloc, b"ok", b""),
+        Status::NoWorker(worker) => number_of(alloc, b"no worker ", u64::from(*worker)),
+        Status::BadScenario(fault) => scenario_text(alloc, *fault),
         Status::NotYet(name) => line_of(alloc, b"not yet ", name.as_str().as_bytes()),
         Status::BadPcap(name, fault) => capture_text(alloc, name, *fault),
         Status::ReadFault(name) => line_of(alloc, b"cannot read ", name.as_str().as_bytes()),

@@ -4,20 +4,12 @@ ghost use Rattle.sn_run.specs.Steps.{WriteEnds, IsPrepared, outcome};
 ghost use Rattle.sn_run.specs.Texts.{text_of};
 ghost use Rattle.std.specs.Prelude.{ℕ, List, [], ◌∷◌, IfOk, IfErr, vec_len, vec_capacity, ◌≤◌, ◌≡◌};
 
-use crate::reading::Refusal;
+use crate::answer::{Answer, hungry};
 use crate::texts::status_text;
 use crate::{OutFile, Report, Status};
 use sn_names::FileName;
 use sn_outside::{FileFault, Files};
 use std::alloc::{AllocError, Global};
-
-/// An answer, its text, and the report where there is one.
-#[derive(Drop)]
-pub(crate) struct Answer {
-    pub(crate) status: Status,
-    pub(crate) report: Option<Report>,
-    pub(crate) text: Vec<u8>,
-}
 
 /// What a run needs from its first write on, when no memory is taken any more.
 #[derive(Drop)]
@@ -79,19 +71,6 @@ fn prepare(alloc: Global, name: FileName, bytes: Vec<u8>, left: u64) -> Result<P
         fault,
         fault_text,
     })
-}
-
-/// The answer for want of memory.
-pub(crate) fn hungry(alloc: Global) -> Answer
-    ensures status { result.status ≡ Status.OutOfMemory }
-    ensures report { result.report ≡ None }
-    ensures text { result.text.items ≡ text_of result.status }
-{
-    Answer {
-        status: Status::OutOfMemory,
-        report: None,
-        text: Vec::new(alloc),
-    }
 }
 
 /// Writes the file of a run, and answers how the run ended.
