@@ -1,5 +1,8 @@
 pub mod Adding
+pub mod Bounding
+pub mod Filing
 pub mod Fronts
+pub mod Keeping
 pub mod Leaving
 pub mod Lining
 pub mod Planning

@@ -1,5 +1,8 @@
--- Scenarios.
-use Rattle.std.specs.Prelude.{List, Option, ℕ}
+-- Scenarios, and what holds of each.
+use Rattle.std.specs.Prelude.{All, AllPairs, Contains, IfSome, List, Option, count_by, length, ℕ, ◌*◌, ◌<◌, ◌≡◌, ◌≢◌, ◌≤◌}
+use Rattle.std.specs.List.Sorted.{IsStrictlySortedBy}
+use Rattle.sn_names.specs.LinkOrder.{name_cmp}
+use Rattle.sn_scenario.specs.ConfigLines.{of_worker}
 use Rattle.sn_scenario.specs.declared.lane.Lane.{Lane}
 use Rattle.sn_scenario.specs.declared.placed.Placed.{Placed}
 use Rattle.sn_scenario.specs.declared.settings.Settings.{Settings}
@@ -15,3 +18,75 @@ pub record ScenarioForm : Type 0 where
   pub stops : List StopLine
   pub captures : List (List ℕ)
   pub outputs : List (List ℕ)
+
+-- from low up to high
+abbrev pub IsWithin : ℕ → ℕ → ℕ → Type 0
+IsWithin low high n = (low ≤ n) × (n ≤ high)
+
+-- the settings of a scenario
+pub record AreBounded (settings : Settings) : Type 0 where
+  pub pool : IsWithin 1 16384 settings.pool
+  pub workers : IsWithin 1 16 settings.workers
+  pub breaths : IsWithin 1 1000 settings.breaths
+  pub rounds : IsWithin 1 100000 settings.rounds
+  pub restarts : settings.restarts ≤ 1000
+  pub product : settings.rounds * settings.breaths ≤ 100000
+
+-- an interlink between two of the workers
+pub record IsLane (workers : ℕ) (lane : Lane) : Type 0 where
+  pub tx : lane.tx < workers
+  pub rx : lane.rx < workers
+  pub apart : lane.tx ≢ lane.rx
+
+-- the interlinks of a scenario, no two of one name
+pub record AreLanes (workers : ℕ) (lanes : List Lane) : Type 0 where
+  pub few : length lanes ≤ 16
+  pub each : All (IsLane workers) lanes
+  pub once : AllPairs (λ a b. a.name ≢ b.name) lanes
+
+-- a stop of one of the workers
+pub record IsStop (workers : ℕ) (stop : StopLine) : Type 0 where
+  pub worker : stop.worker < workers
+  pub entries : stop.entries ≤ 1000000000
+  pub gates : stop.gates ≤ 1000000
+
+-- the stops of a scenario
+pub record AreStops (workers : ℕ) (stops : List StopLine) : Type 0 where
+  pub few : length stops ≤ 1000
+  pub each : All (IsStop workers) stops
+
+-- the captures or the outputs of a scenario, rising bytewise, so that each stands once
+pub record AreFiles (names : List (List ℕ)) : Type 0 where
+  pub few : length names ≤ 16
+  pub rising : IsStrictlySortedBy name_cmp names
+
+-- no file has two uses
+pub record HaveOneUse (journal : Option (List ℕ)) (captures outputs : List (List ℕ)) : Type 0 where
+  pub not_read : IfSome journal (λ file. Contains captures file → ⊥)
+  pub not_written : IfSome journal (λ file. Contains outputs file → ⊥)
+  pub apart : (file : List ℕ) → Contains captures file → Contains outputs file → ⊥
+
+-- a configuration of one of the workers
+pub record IsPlaced (workers : ℕ) (placed : Placed) : Type 0 where
+  pub worker : placed.worker < workers
+  pub round : placed.round ≤ 100000
+
+-- the configurations of a scenario: the rounds of each worker rise, and no worker has more than 64
+pub record ArePlaced (workers : ℕ) (placed : List Placed) : Type 0 where
+  pub each : All (IsPlaced workers) placed
+  pub rising : AllPairs (λ a b. a.worker ≡ b.worker → a.round < b.round) placed
+  pub few : (worker : ℕ) → count_by (of_worker worker) placed ≤ 64
+
+-- the parts of what holds of every scenario
+pub record HasBounds (scenario : ScenarioForm) : Type 0 where
+  pub settings : AreBounded scenario.settings
+  pub lanes : AreLanes scenario.settings.workers scenario.lanes
+  pub stops : AreStops scenario.settings.workers scenario.stops
+  pub captures : AreFiles scenario.captures
+  pub outputs : AreFiles scenario.outputs
+  pub uses : HaveOneUse scenario.journal scenario.captures scenario.outputs
+  pub placed : ArePlaced scenario.settings.workers scenario.placed
+
+-- what holds of every scenario; a proof that needs a part unfolds the word
+unfoldable pub IsBounded : ScenarioForm → Type 0
+IsBounded scenario = HasBounds scenario

@@ -3,6 +3,7 @@ ghost use Rattle.sn_scenario.specs.Cutting.{lines_of};
 ghost use Rattle.sn_scenario.specs.DraftView.{reading_of};
 ghost use Rattle.sn_scenario.specs.Parsing.{Parses, ReadsAll, fault_at};
 ghost use Rattle.sn_scenario.specs.Results.{Gives};
+ghost use Rattle.sn_scenario.specs.Scenarios.{IsBounded};
 ghost use Rattle.sn_scenario.specs.ScenarioText.{finish, form_of, lines_from, scenario_of};
 ghost use Rattle.std.specs.Prelude.{IfOk, Ok, length, map, ◌≡◌, ◌≤◌};
 
@@ -61,6 +62,7 @@ fn outputs_of(alloc: Global, outputs: BTreeMap<FileName, u32>) -> Result<Vec<Fil
 /// The scenario that was read whole, at the end of its text.
 #[tactic(auto, unfolding(crate::specs::ScenarioText::finish))]
 fn finish(alloc: Global, mut draft: Draft) -> Result<Scenario, LineFault>
+    requires { IfOk (finish (reading_of draft)) IsBounded }
     ensures { Gives (λ s. s) result (finish (reading_of draft)) }
 {
     if !draft.headed {
@@ -75,6 +77,7 @@ fn finish(alloc: Global, mut draft: Draft) -> Result<Scenario, LineFault>
 
 /// The scenario of what was read whole.
 fn whole(alloc: Global, draft: Draft) -> Result<Scenario, LineFault>
+    requires { IsBounded (form_of (reading_of draft)) }
     ensures { Gives (λ s. s) result (Ok (form_of (reading_of draft))) }
 {
     let settings = draft.given.settings();
@@ -113,6 +116,7 @@ impl Scenario {
         requires { length bytes.now ≤ 1048576 }
         // The scenario, or the fault, that the definition has for this text.
         ensures exact { Parses result (scenario_of bytes.now) }
+        ensures bounds { IfOk result IsBounded }
     {
         let mut draft = Draft::new(alloc);
         let number = match read_lines(alloc, &mut draft, bytes) {

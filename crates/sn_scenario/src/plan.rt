@@ -1,6 +1,7 @@
 //! What a scenario has each worker do.
 ghost use Rattle.sn_scenario.specs.ConfigLines.{no_config, of_worker};
 ghost use Rattle.sn_scenario.specs.Plans.{change_of, due_after, due_of, plan_after, plan_of};
+ghost use Rattle.sn_scenario.specs.Scenarios.{ArePlaced};
 ghost use Rattle.std.specs.Prelude.{IfOk, OnOk, cond, filter, length, nat_le, vec_len, ◌++◌, ◌+◌, ◌<◌, ◌≡◌, ◌≤◌};
 
 use crate::Scenario;
@@ -77,9 +78,11 @@ impl Scenario {
     ///
     /// # Errors
     /// Want of memory.
+    #[tactic(auto, unfolding(crate::specs::Scenarios::IsBounded))]
     pub fn plan(&self, alloc: Global, worker: u32) -> Result<Vec<Action>, AllocError>
         requires { worker < self.now.settings.workers }
-        ensures { IfOk result (λ actions. actions.items ≡ plan_of worker self.now) }
+        ensures plan { IfOk result (λ actions. actions.items ≡ plan_of worker self.now) }
+        ensures bounds { ArePlaced self.now.settings.workers self.now.placed }
     {
         let (actions, _) = plan_until(alloc, &self.placed, worker, 0)?;
         Ok(actions)
@@ -89,9 +92,11 @@ impl Scenario {
     ///
     /// # Errors
     /// Want of memory.
+    #[tactic(auto, unfolding(crate::specs::Scenarios::IsBounded))]
     pub fn due(&self, alloc: Global, worker: u32, round: u32) -> Result<u64, AllocError>
         requires { worker < self.now.settings.workers }
-        ensures { IfOk result (λ due. due ≡ due_of worker round self.now) }
+        ensures due { IfOk result (λ due. due ≡ due_of worker round self.now) }
+        ensures bounds { ArePlaced self.now.settings.workers self.now.placed }
     {
         let (_, due) = plan_until(alloc, &self.placed, worker, round)?;
         Ok(due)

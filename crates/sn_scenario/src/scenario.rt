@@ -1,4 +1,5 @@
 //! Scenarios, and what they say.
+ghost use Rattle.sn_scenario.specs.Scenarios.{AreBounded, AreFiles, AreLanes, AreStops, HaveOneUse};
 ghost use Rattle.std.specs.Option.{option_copied};
 ghost use Rattle.std.specs.Prelude.{◌≡◌};
 
@@ -21,38 +22,50 @@ pub struct Scenario {
 }
 
 impl Model for Scenario {
-    ghost use Rattle.sn_scenario.specs.Scenarios.{ScenarioForm};
+    ghost use Rattle.sn_scenario.specs.Scenarios.{IsBounded, ScenarioForm};
 
     ghost Value = { ScenarioForm };
 
     ghost view = { λ s. record { settings = s.settings; lanes = s.lanes.items; journal = s.journal; placed = s.placed.items; stops = s.stops.items; captures = s.captures.items; outputs = s.outputs.items } };
+
+    ghost invariant = { λ s. IsBounded (record { settings = s.settings; lanes = s.lanes.items; journal = s.journal; placed = s.placed.items; stops = s.stops.items; captures = s.captures.items; outputs = s.outputs.items }) };
 }
 
 impl Scenario {
     /// The settings, with the defaults of those that aren't given.
+    #[tactic(auto, unfolding(crate::specs::Scenarios::IsBounded))]
     pub fn settings(&self) -> Settings
-        ensures { result ≡ self.now.settings }
+        ensures same { result ≡ self.now.settings }
+        ensures bounds { AreBounded self.now.settings }
     {
         self.settings
     }
 
     /// The interlinks, in the scenario's order: at most 16.
+    #[tactic(auto, unfolding(crate::specs::Scenarios::IsBounded))]
     pub fn lanes(&self) -> &[Lane]
-        ensures { result.now ≡ self.now.lanes }
+        ensures same { result.now ≡ self.now.lanes }
+        ensures bounds { AreLanes self.now.settings.workers self.now.lanes }
     {
         &self.lanes
     }
 
     /// The captures that are read, in the bytewise order of their names: at most 16.
+    #[tactic(auto, unfolding(crate::specs::Scenarios::IsBounded))]
     pub fn captures(&self) -> &[FileName]
-        ensures { result.now ≡ self.now.captures }
+        ensures same { result.now ≡ self.now.captures }
+        ensures bounds { AreFiles self.now.captures }
+        ensures uses { HaveOneUse self.now.journal self.now.captures self.now.outputs }
     {
         &self.captures
     }
 
     /// The files that are written, in the bytewise order of their names: at most 16.
+    #[tactic(auto, unfolding(crate::specs::Scenarios::IsBounded))]
     pub fn outputs(&self) -> &[FileName]
-        ensures { result.now ≡ self.now.outputs }
+        ensures same { result.now ≡ self.now.outputs }
+        ensures bounds { AreFiles self.now.outputs }
+        ensures uses { HaveOneUse self.now.journal self.now.captures self.now.outputs }
     {
         &self.outputs
     }
@@ -65,8 +78,10 @@ impl Scenario {
     }
 
     /// The stops, in the scenario's order: at most 1,000.
+    #[tactic(auto, unfolding(crate::specs::Scenarios::IsBounded))]
     pub fn stops(&self) -> &[StopLine]
-        ensures { result.now ≡ self.now.stops }
+        ensures same { result.now ≡ self.now.stops }
+        ensures bounds { AreStops self.now.settings.workers self.now.stops }
     {
         &self.stops
     }
