@@ -158,7 +158,6 @@ module _ (w : Seen) where
       file = file;
       text = has.text;
       held = record { asked = asked; holds = held_of file most_scenario has.text has.found };
-      read = has.read;
       is = has.is;
     }
 

@@ -1,8 +1,8 @@
 -- The calls that stand behind an answer are those of the answer.
-use Rattle.std.proofs.Common.{◌≡◌, ℕ, inl, inr, List, [], ◌∷◌, ◌++◌, Option, Ok, Err, refl, sym, ap, subst}
+use Rattle.std.proofs.Common.{ℕ, inl, inr, List, [], ◌∷◌, Option, Ok, refl, sym, ap, subst}
 use Rattle.sn_outside.specs.declared.files.FileCall.{FileCall}
 use Rattle.sn_run.specs.Alone.{AloneEnds}
-use Rattle.sn_run.specs.Calls.{AreCalls, CallsMade, IsAfterOwn, IsOwn}
+use Rattle.sn_run.specs.Calls.{CallsMade, IsAfterOwn, IsOwn}
 use Rattle.sn_run.specs.Causes.{FileEnds, AfterScenario, After, IsOneRead, RefusesText, most_scenario}
 use Rattle.sn_run.specs.Commands.{IsCommandOf}
 use Rattle.sn_run.specs.Courses.{CommandCause, Course}

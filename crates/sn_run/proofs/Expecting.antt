@@ -7,12 +7,11 @@ use Rattle.sn_outside.specs.declared.files.FileCall.{FileCall}
 use Rattle.sn_pcap.specs.declared.fault.PcapFault.{PcapFault}
 use Rattle.sn_pcap.specs.Faults.{HasFault}
 use Rattle.sn_pcap.specs.Grammar.{PcapText}
-use Rattle.sn_scenario.specs.PlainText.{plain_text}
 use Rattle.sn_scenario.specs.ScenarioText.{scenario_of}
 use Rattle.sn_scenario.specs.Scenarios.{ScenarioForm}
 use Rattle.sn_scenario.specs.declared.fault.ScenarioFault.{ScenarioFault}
 use Rattle.sn_run.specs.Alone.{Alone, AloneEnds, IsDoneBy}
-use Rattle.sn_run.specs.Causes.{FileEnds, RunEnds, HasScenario, HasCapture, IsScenarioText, IsNotYet, LacksWorker, RefusesText, RefusesRun, RefusesWorker, RefusesCapture, most_scenario, most_capture}
+use Rattle.sn_run.specs.Causes.{FileEnds, RunEnds, HasScenario, HasCapture, IsNotYet, LacksWorker, RefusesText, RefusesRun, RefusesWorker, RefusesCapture, most_scenario, most_capture}
 use Rattle.sn_run.specs.Commands.{IsCommandOf}
 use Rattle.sn_run.specs.Copying.{Copying, IsScenario}
 use Rattle.sn_run.specs.Courses.{CommandCause, Course}
@@ -50,20 +49,20 @@ hungry_is : (s a : Status) → a ≡ OutOfMemory → IsOrHungry s a
 hungry_is s a is = subst (IsOrHungry s) (sym is) tt
 
 -- a text that is a scenario of the form isn't refused
-run_good : (file text : List ℕ) (c : Copying) → IsScenarioText text → IsScenario text c → (s : Status) → RefusesText Run file text s → ⊥
-run_good file text c read is Drained refused = refused
-run_good file text c read is (RoundsUsed n) refused = refused
-run_good file text c read is Done refused = refused
-run_good file text c read is BadWords refused = refused
-run_good file text c read is (NoWorker n) refused = refused
-run_good file text c read is (BadScenario fault) refused = form_or_fault text read.0 fault read.1 refused
-run_good file text c read is (NotYet n) refused = refused.1.none c is
-run_good file text c read is (BadPcap n fault) refused = refused
-run_good file text c read is (ReadFault n) refused = refused
-run_good file text c read is (TooLong n) refused = refused
-run_good file text c read is (WriteFault n) refused = refused
-run_good file text c read is PrintFault refused = refused
-run_good file text c read is OutOfMemory refused = refused
+run_good : (file text : List ℕ) (c : Copying) → IsScenario text c → (s : Status) → RefusesText Run file text s → ⊥
+run_good file text c is Drained refused = refused
+run_good file text c is (RoundsUsed n) refused = refused
+run_good file text c is Done refused = refused
+run_good file text c is BadWords refused = refused
+run_good file text c is (NoWorker n) refused = refused
+run_good file text c is (BadScenario fault) refused = form_or_fault text is.form fault is.read refused
+run_good file text c is (NotYet n) refused = refused.1.none c is
+run_good file text c is (BadPcap n fault) refused = refused
+run_good file text c is (ReadFault n) refused = refused
+run_good file text c is (TooLong n) refused = refused
+run_good file text c is (WriteFault n) refused = refused
+run_good file text c is PrintFault refused = refused
+run_good file text c is OutOfMemory refused = refused
 
 -- a text that is refused is refused as it should be
 text_bad : (command : Command) (file text : List ℕ) (wanted : Status) → ((fault : ScenarioFault) → scenario_of text ≡ Err fault → BadScenario fault ≡ wanted) → ((answered : List ℕ) → RefusesRun command file text answered → NotYet answered ≡ wanted) → ((n : ℕ) → RefusesWorker command text n → NoWorker n ≡ wanted) → (s : Status) → RefusesText command file text s → IsOrHungry wanted s
@@ -209,7 +208,7 @@ module _ (w : Seen) (t : w.tells ≡ true) (calm : Rises w → ⊥) where
   -- two readings of the file's scenario are one
   same_scenario : (file : List ℕ) (c d : Copying) (text : List ℕ) → Holds w.before file most_scenario text → IsScenario text c → HasScenario w file d → d ≡ c
   same_scenario file c d text holds is has =
-      one_scenario (plain_text text) d c (subst (λ x. IsScenario x d) (one_content w.before file _ _ (has.found.told t) holds.held) has.is) is
+      one_scenario text d c (subst (λ x. IsScenario x d) (one_content w.before file _ _ (has.found.told t) holds.held) has.is) is
 
   module _ (words : List (List ℕ)) (report : Option RunReport) where
     -- the cause is that of the command that the words ask for
@@ -251,7 +250,7 @@ module _ (w : Seen) (t : w.tells ≡ true) (calm : Rises w → ⊥) where
     reached c held wanted a from course =
         asked_cause held.file Run held.held.asked wanted a (λ cause. elim cause [
           | inl b ↦ elim b.ends [
-            | inl e ↦ good_file [] held.file most_scenario (RefusesText Run held.file) held.text held.held.holds (run_good held.file held.text c held.read held.is) wanted a e
+            | inl e ↦ good_file [] held.file most_scenario (RefusesText Run held.file) held.text held.held.holds (run_good held.file held.text c held.is) wanted a e
             | inr x ↦ from (inl (record { prior = _; ends = subst (λ d. FileEnds w _ d.input most_capture (RefusesCapture d.input) a) (same_scenario held.file c x.c held.text held.held.holds held.is x.scenario) x.capture }))
           ]
           | inr y ↦
@@ -281,14 +280,14 @@ module _ (w : Seen) (t : w.tells ≡ true) (calm : Rises w → ⊥) where
         a) course
 
     -- a text that isn't done over and not of the form is refused as wanted
-    text_refused : (file : List ℕ) (command : Command) (text : List ℕ) → TextHeld w.before words file command text → (wanted : Status) → ((form : ScenarioForm) → scenario_of text ≡ Ok form → IsDoneBy command form → ⊥) → ((c : Copying) → IsScenarioText text → IsScenario text c → ⊥) → ((s : Status) → RefusesText command file text s → IsOrHungry wanted s) → (a : Status) → Course w words report a → IsOrHungry wanted a
+    text_refused : (file : List ℕ) (command : Command) (text : List ℕ) → TextHeld w.before words file command text → (wanted : Status) → ((form : ScenarioForm) → scenario_of text ≡ Ok form → IsDoneBy command form → ⊥) → ((c : Copying) → IsScenario text c → ⊥) → ((s : Status) → RefusesText command file text s → IsOrHungry wanted s) → (a : Status) → Course w words report a → IsOrHungry wanted a
     text_refused file command text held wanted undone none only a course =
         asked_cause file command held.asked wanted a
         (file_ends file command wanted
         (λ e. absurd (undone e.form (subst (λ x. scenario_of x ≡ Ok e.form) (held_text file text _ held.holds (e.has.found.told t)) e.has.is) e.done))
         (λ c has.
         let same = held_text file text _ held.holds (has.found.told t) in
-        none c (subst IsScenarioText same has.read) (subst (λ x. IsScenario x c) same has.is))
+        none c (subst (λ x. IsScenario x c) same has.is))
         (refused_file [] file most_scenario (RefusesText command file) text held.holds wanted only)
         a) course
 
@@ -296,7 +295,7 @@ module _ (w : Seen) (t : w.tells ≡ true) (calm : Rises w → ⊥) where
     text_is_faulty fault bad =
         text_refused bad.file bad.command bad.text bad.held (BadScenario fault)
         (λ form is done. form_or_fault bad.text form fault is bad.faulty)
-        (λ c read is. form_or_fault bad.text read.0 fault read.1 bad.faulty)
+        (λ c is. form_or_fault bad.text is.form fault is.read bad.faulty)
         (text_faulty bad.command bad.file bad.text fault bad.faulty)
 
     worker_missing : (worker : ℕ) → WorkerMissing w.before words worker → (a : Status) → Course w words report a → IsOrHungry (NoWorker worker) a
@@ -311,7 +310,7 @@ module _ (w : Seen) (t : w.tells ≡ true) (calm : Rises w → ⊥) where
 
     scenario_refused : (name : List ℕ) → ScenarioRefused w.before words name → (a : Status) → Course w words report a → IsOrHungry (NotYet name) a
     scenario_refused name bad =
-        text_refused name Run bad.text bad.held (NotYet name) (λ form is done. done) (λ c read is. bad.refused.none c is) (run_later name bad.text bad.refused)
+        text_refused name Run bad.text bad.held (NotYet name) (λ form is done. done) bad.refused.none (run_later name bad.text bad.refused)
 
     -- a command that can be done is done
     shown_done : (file : List ℕ) (command : Command) (text : List ℕ) (form : ScenarioForm) → TextHeld w.before words file command text → scenario_of text ≡ Ok form → IsDoneBy command form → (a : Status) → CommandCause w file command report a → IsOrHungry Done a

@@ -69,7 +69,7 @@ module _ (tells : Bool) (m0 m1 m2 : Contents) (k0 k1 k2 : List FileCall) (f0 f1 
 
   module _ (file : List ℕ) (c : Copying) (gave : GaveScenario (seen tells m0 m1 k0 k1 f0 f1) file c) where
     scenario_had : HasScenario (seen tells m0 m2 k0 k2 f0 f2) file c
-    scenario_had = record { text = gave.text; found = record { told = gave.gave.found.told; short = gave.gave.found.short }; read = gave.read; is = gave.is }
+    scenario_had = record { text = gave.text; found = record { told = gave.gave.found.told; short = gave.gave.found.short }; is = gave.is }
 
     -- the capture ends the run
     pub capture_ends : (name : List ℕ) (ended status : Status) (report : Option RunReport) → name ≡ c.input → StepEnds (seen tells m1 m2 k1 k2 f1 f2) name most_capture (RefusesCapture name) ended → status ≡ ended → report ≡ None → Cause (seen tells m0 m2 k0 k2 f0 f2) file report status
@@ -154,7 +154,7 @@ module _ (tells : Bool) (m0 m1 m2 m3 : Contents) (k0 k1 k2 k3 : List FileCall) (
   all_made = both_made tells m0 m1 m2 k0 k1 k2 f0 f1 f2 file c gave input capture named read
 
   scenario_had3 : HasScenario (seen tells m0 m3 k0 k3 f0 f3) file c
-  scenario_had3 = record { text = gave.text; found = record { told = gave.gave.found.told; short = gave.gave.found.short }; read = gave.read; is = gave.is }
+  scenario_had3 = record { text = gave.text; found = record { told = gave.gave.found.told; short = gave.gave.found.short }; is = gave.is }
 
   capture_had3 : HasCapture (seen tells m0 m3 k0 k3 f0 f3) c.input (payloads_of capture)
   capture_had3 =

@@ -4,7 +4,7 @@ pub mod CopySteps
 pub mod Expecting
 pub mod Forming
 pub mod Joining
-pub mod Lining
+pub mod Numbers
 pub mod Single
 pub mod Taking
 pub mod Wording

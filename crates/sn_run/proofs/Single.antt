@@ -1,13 +1,15 @@
 -- A command that reads a scenario alone, by what its one read gave.
-use Rattle.std.proofs.Common.{◌≡◌, ℕ, List, [], Option, None, refl, sym, ◌∙◌, subst}
+use Rattle.std.proofs.Common.{◌≡◌, ℕ, List, [], Option, None, Ok, ◌∷◌, refl, sym, ◌∙◌, subst}
 use Rattle.sn_scenario.specs.Scenarios.{ScenarioForm}
 use Rattle.sn_run.specs.Alone.{Alone, AloneEnds, IsDoneBy, DonePrints, CommandPrints, done_text}
 use Rattle.sn_run.specs.Causes.{FileEnds, RefusesText, most_scenario}
 use Rattle.sn_run.specs.Reported.{RunReport}
-use Rattle.sn_run.specs.Seen.{Seen}
-use Rattle.sn_run.specs.Steps.{GaveText, TextEnds}
+use Rattle.sn_run.specs.Copying.{Copying, IsScenario}
+use Rattle.sn_run.specs.Seen.{Seen, a_read}
+use Rattle.sn_run.specs.Steps.{GaveText, IsOrHungry, StepEnds, TextEnds}
 use Rattle.sn_run.specs.Texts.{text_of}
 use Rattle.sn_run.specs.declared.command.Command.{Command}
+use Rattle.sn_run.specs.declared.command.Command.TheVariants.{Run}
 use Rattle.sn_run.specs.declared.status.Status.{Status}
 use Rattle.sn_run.specs.declared.status.Status.TheVariants.{Drained, RoundsUsed, Done, BadWords, NoWorker, BadScenario, NotYet, BadPcap, ReadFault, TooLong, WriteFault, PrintFault, OutOfMemory}
 
@@ -64,3 +66,34 @@ module _ (w : Seen) (file : List ℕ) (command : Command) where
 
   pub done_prints : (text printed : List ℕ) (form : ScenarioForm) → GaveText w file text form → IsDoneBy command form → printed ≡ done_text command form → DonePrints w file command printed
   done_prints text printed form gave done is = record { form = form; has = record { text = text; found = gave.gave.found; is = gave.is }; done = done; shown = is }
+
+-- an answer that may be want of memory is one of both
+or_hungry : (wanted : Status) (P : Status → Type 0) → P wanted → P OutOfMemory → (s : Status) → IsOrHungry wanted s → P s
+or_hungry wanted P well hungry Drained is = subst P (sym is) well
+or_hungry wanted P well hungry (RoundsUsed n) is = subst P (sym is) well
+or_hungry wanted P well hungry Done is = subst P (sym is) well
+or_hungry wanted P well hungry BadWords is = subst P (sym is) well
+or_hungry wanted P well hungry (NoWorker n) is = subst P (sym is) well
+or_hungry wanted P well hungry (BadScenario fault) is = subst P (sym is) well
+or_hungry wanted P well hungry (NotYet n) is = subst P (sym is) well
+or_hungry wanted P well hungry (BadPcap n fault) is = subst P (sym is) well
+or_hungry wanted P well hungry (ReadFault n) is = subst P (sym is) well
+or_hungry wanted P well hungry (TooLong n) is = subst P (sym is) well
+or_hungry wanted P well hungry (WriteFault n) is = subst P (sym is) well
+or_hungry wanted P well hungry PrintFault is = subst P (sym is) well
+or_hungry wanted P well hungry OutOfMemory is = hungry
+
+-- a scenario that doesn't run yet ends a run
+pub not_yet : (w : Seen) (file text : List ℕ) (form : ScenarioForm) → GaveText w file text form → ((c : Copying) → IsScenario text c → ⊥) → (s : Status) → IsOrHungry (NotYet file) s → StepEnds w file most_scenario (RefusesText Run file) s
+not_yet w file text form gave none =
+    or_hungry (NotYet file) (StepEnds w file most_scenario (RefusesText Run file))
+    (record {
+      kept = gave.gave.kept;
+      ends = record {
+        bytes = text;
+        found = gave.gave.found;
+        refused = (refl, record { read = (form, gave.is); none = none });
+        made = gave.gave.made;
+      };
+    })
+    (record { kept = gave.gave.kept; ends = record { calls = a_read file (Ok tt) ∷ []; one = (Ok tt, refl); made = gave.gave.made } })

@@ -4,7 +4,7 @@ use Rattle.std.specs.Fmt.{decimal}
 use Rattle.sn_run.specs.Commands.{IsCommandOf, IsInBounds, words_for}
 use Rattle.sn_run.specs.declared.command.Command.{Command}
 use Rattle.sn_run.specs.declared.command.Command.TheVariants.{Run, Check, Actions}
-use Rattle.sn_run.proofs.Lining.{same_number}
+use Rattle.sn_run.proofs.Numbers.{same_number}
 
 -- the words name one file and one command
 one_words : (f g : List ℕ) (c d : Command) → IsInBounds c → IsInBounds d → words_for f c ≡ words_for g d → (f ≡ g) × (c ≡ d)

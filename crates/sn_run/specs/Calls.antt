@@ -48,8 +48,8 @@ pub record EndsWithWrite (words : List (List ℕ)) (name : List ℕ) (answer : R
   pub asked : IsCommandOf words file Run
   pub calls_are : calls ≡ a_read file (Ok tt) ∷ a_read input (Ok tt) ∷ a_write name answer ∷ []
 
--- Each read and write is made once, in this order, up to the first that is refused; after want of
--- memory there is a front of them.
+-- Each read and write is made once, in this order, up to the first that is refused, but for those
+-- refused for want of memory, which aren't noted; after want of memory there is a front of them.
 abbrev pub AreCalls : List (List ℕ) → Status → List FileCall → Type 0
 AreCalls words Drained calls = (name : List ℕ) × EndsWithWrite words name (Ok tt) calls
 AreCalls words (RoundsUsed left) calls = (name : List ℕ) × EndsWithWrite words name (Ok tt) calls

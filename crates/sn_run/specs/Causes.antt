@@ -24,12 +24,12 @@ most_scenario = 1048576
 abbrev pub most_capture : ℕ
 most_capture = 16777216
 
--- Reading a file ended the run: the read was refused with this fault, after these calls.
+-- Reading a file ended the command: the read was refused with this fault, after these calls.
 pub record EndsUnread (w : Seen) (prior : List FileCall) (name : List ℕ) (fault : FileFault) (answered : List ℕ) : Type 0 where
   pub named : answered ≡ name
   pub made : Made w (prior ++ a_read name (Err fault) ∷ [])
 
--- The bytes of a file ended the run: they are refused with this answer.
+-- The bytes of a file ended the command: they are refused with this answer.
 pub record EndsRefused (w : Seen) (prior : List FileCall) (name : List ℕ) (limit : ℕ) (Refuses : List ℕ → Status → Type 0) (status : Status) : Type 0 where
   pub bytes : List ℕ
   pub found : Found w name limit bytes
@@ -42,13 +42,13 @@ IsOneRead name [] = Unit {0}
 IsOneRead name (call ∷ []) = (answer : Result Unit FileFault) × (call ≡ a_read name answer)
 IsOneRead name (call ∷ next ∷ calls) = ⊥
 
--- Want of memory ended the run, at this file at the latest.
+-- Want of memory ended the command, after these calls and the read of this file at the latest.
 pub record EndsHungry (w : Seen) (prior : List FileCall) (name : List ℕ) : Type 0 where
   pub calls : List FileCall
   pub one : IsOneRead name calls
   pub made : Made w (prior ++ calls)
 
--- a file ended the run with this answer, by its read or by what it holds
+-- a file ended the command with this answer, by its read or by what it holds
 abbrev pub FileEnds : Seen → List FileCall → List ℕ → ℕ → (List ℕ → Status → Type 0) → Status → Type 0
 FileEnds w prior name limit Refuses (ReadFault answered) = EndsUnread w prior name Failed answered × Rises w
 FileEnds w prior name limit Refuses (TooLong answered) = EndsUnread w prior name Long answered × IsLonger w name limit
@@ -101,7 +101,6 @@ RefusesCapture name bytes _ = ⊥
 pub record HasScenario (w : Seen) (file : List ℕ) (c : Copying) : Type 0 where
   pub text : List ℕ
   pub found : Found w file most_scenario text
-  pub read : IsScenarioText text
   pub is : IsScenario text c
 
 -- the file held a capture of these records

@@ -6,7 +6,7 @@ use Rattle.sn_pcap.specs.declared.fault.PcapFault.{PcapFault}
 use Rattle.sn_pcap.specs.Faults.{HasFault}
 use Rattle.sn_pcap.specs.Grammar.{PcapText}
 use Rattle.sn_run.specs.Alone.{IsDoneBy, done_text}
-use Rattle.sn_run.specs.Causes.{IsNotYet, IsScenarioText, LacksWorker, most_scenario, most_capture}
+use Rattle.sn_run.specs.Causes.{IsNotYet, LacksWorker, most_scenario, most_capture}
 use Rattle.sn_run.specs.Commands.{IsCommand, IsCommandOf}
 use Rattle.sn_run.specs.Copying.{Copying, IsScenario}
 use Rattle.sn_run.specs.Reported.{most_read}
@@ -75,7 +75,6 @@ pub record ScenarioHeld (m : Contents) (words : List (List ℕ)) (c : Copying) :
   pub file : List ℕ
   pub text : List ℕ
   pub held : TextHeld m words file Run text
-  pub read : IsScenarioText text
   pub is : IsScenario text c
 
 -- the scenario's capture is too long

@@ -8,7 +8,6 @@ pub mod Copying
 pub mod Courses
 pub mod Exit
 pub mod Expected
-pub mod Lines
 pub mod Printed
 pub mod Reported
 pub mod Seen

@@ -13,9 +13,9 @@ pub record RunReport : Type 0 where
   pub files : List WrittenFile
   pub left : ℕ
 
--- How many records a run reads: 102 in each breath but the first, in which the network isn't whole yet.
+-- How many records a run reads at most: 102 in each breath but the first, in which the network isn't whole yet.
 abbrev pub most_read : Copying → ℕ
-most_read c = 102 * (c.breaths * c.rounds - 1)
+most_read c = 102 * (c.rounds * c.breaths - 1)
 
 -- whether a record is written: it isn't oversize
 abbrev pub fits : List ℕ → Bool

@@ -6,7 +6,7 @@ use Rattle.sn_pcap.specs.Grammar.{PcapText}
 use Rattle.sn_pcap.specs.Places.{payloads_of}
 use Rattle.sn_scenario.specs.ScenarioText.{scenario_of}
 use Rattle.sn_scenario.specs.Scenarios.{ScenarioForm}
-use Rattle.sn_run.specs.Causes.{IsScenarioText, RefusesText, most_scenario, most_capture, FileEnds, RunEnds}
+use Rattle.sn_run.specs.Causes.{RefusesText, most_scenario, most_capture, FileEnds, RunEnds}
 use Rattle.sn_run.specs.Copying.{Copying, IsScenario}
 use Rattle.sn_run.specs.Reported.{RunReport}
 use Rattle.sn_run.specs.Seen.{Seen, Kept, Made, ReadGave}
@@ -26,7 +26,7 @@ IsUnread Failed name status = IsOrHungry (ReadFault name) status
 IsUnread Long name status = IsOrHungry (TooLong name) status
 IsUnread NoMemory name status = status ≡ OutOfMemory
 
--- a file ended the run in this step, with no file changed
+-- a file ended the command in this step, with no file changed
 pub record StepEnds (w : Seen) (name : List ℕ) (limit : ℕ) (Refuses : List ℕ → Status → Type 0) (status : Status) : Type 0 where
   pub kept : Kept w
   pub ends : FileEnds w [] name limit Refuses status
@@ -51,7 +51,6 @@ pub record TextEnds (w : Seen) (file : List ℕ) (status : Status) : Type 0 wher
 pub record GaveScenario (w : Seen) (file : List ℕ) (c : Copying) : Type 0 where
   pub text : List ℕ
   pub gave : ReadGave w file most_scenario text
-  pub read : IsScenarioText text
   pub is : IsScenario text c
 
 -- one read gave this capture

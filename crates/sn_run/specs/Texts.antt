@@ -18,7 +18,7 @@ fault_text (CutRecord nth) = codes "cut-record " ++ decimal nth
 abbrev pub text_line : List ℕ → List ℕ → List ℕ
 text_line words of = words ++ (of ++ 10 ∷ [])
 
--- A run that ended prints the first line of its report; want of memory prints nothing. The numbered
+-- A run that ended prints how it ended; want of memory prints nothing. The numbered
 -- actions stand in place of `ok` where they were asked for.
 abbrev pub text_of : Status → List ℕ
 text_of Drained = text_line (codes "status drained") []

@@ -3,7 +3,7 @@ ghost use Rattle.sn_run.specs.Commands.{IsCommand, IsCommandOf};
 ghost use Rattle.std.specs.Fmt.{decimal};
 ghost use Rattle.std.specs.Prelude.{ℕ, List, [], ◌∷◌, IfNone, IfSome, IsTrue, length, map, string_bytes, ◌≡◌, ◌≤◌, ◌↔◌};
 
-use crate::lines::is_same;
+use crate::texts::is_same;
 use sn_names::decimal;
 
 /// The most bytes of a file's word.

@@ -1,11 +1,13 @@
-//! The scenarios of the one form that runs so far, read from their text.
-ghost use Rattle.sn_run.specs.Copying.{Copying, IsScenario, IsSpelled, IsToken};
+//! The scenarios of the one form that runs so far.
+ghost use Rattle.sn_run.specs.Copying.{Copying, HasValues, IsScenario, copying_text, line};
 ghost use Rattle.sn_run.specs.Reported.{most_read};
-ghost use Rattle.std.specs.Prelude.{IfNone, IfOk, IfSome, ◌≡◌};
+ghost use Rattle.sn_scenario.specs.ScenarioText.{scenario_of};
+ghost use Rattle.std.specs.Fmt.{decimal};
+ghost use Rattle.std.specs.Prelude.{List, IfNone, IfOk, IfSome, Ok, OnOk, ℕ, ◌++◌, ◌≡◌};
 
-use crate::lines::{file_line, is_same, number_line};
-use sn_names::{FileName, NameFault};
-use sn_scenario::plain_text;
+use crate::texts::is_same;
+use sn_names::{FileName, push_decimal};
+use sn_scenario::{Scenario, plain_text};
 use std::alloc::{AllocError, Global};
 use std::marker::Model;
 
@@ -20,110 +22,115 @@ const BEFORE_OUTPUT: &[u8] = b"app w PcapWriter ";
 
 const AFTER_OUTPUT: &[u8] = b"link r.output -> w.input\nend\n";
 
-/// The values of a scenario, as they stand in its text.
-#[derive(Clone, Copy)]
-struct Values<'a> {
-    breaths: u64,
-    rounds: u64,
-    input: &'a [u8],
-    output: &'a [u8],
-}
-
-/// The values that stand in a plain text of the form.
-fn values_of(text: &[u8]) -> Option<Values<'_>>
-    ensures found { IfSome result (λ v. IsSpelled text.now (record { breaths = v.breaths; rounds = v.rounds; input = v.input.now; output = v.output.now })) }
-    ensures none { IfNone result ((c : Copying) → IsSpelled text.now c → ⊥) }
-{
-    let Some((breaths, rest)) = number_line(text, BEFORE_BREATHS, 1000) else {
-        return None;
-    };
-    let Some((rounds, rest)) = number_line(rest, BEFORE_ROUNDS, 100_000) else {
-        return None;
-    };
-    let breaths_in_all = breaths * rounds;
-    if breaths_in_all < 2 || breaths_in_all > 100_000 {
-        return None;
-    }
-    let Some((input, rest)) = file_line(rest, BEFORE_INPUT) else {
-        return None;
-    };
-    let Some((output, rest)) = file_line(rest, BEFORE_OUTPUT) else {
-        return None;
-    };
-    if !is_same(rest, AFTER_OUTPUT) {
-        return None;
-    }
-    if is_same(input, output) {
-        return None;
-    }
-    Some(Values {
-        breaths,
-        rounds,
-        input,
-        output,
-    })
-}
-
 /// A scenario of the form: so many rounds of so many breaths, in which one worker copies the
 /// records of a capture into a file.
 #[derive(Drop)]
 pub(crate) struct CopyRun {
-    pub(crate) breaths: u64,
-    pub(crate) rounds: u64,
-    pub(crate) input: FileName,
-    pub(crate) output: FileName,
+    breaths: u64,
+    rounds: u64,
+    input: FileName,
+    output: FileName,
 }
 
 impl Model for CopyRun {
-    ghost use Rattle.sn_run.specs.Copying.{Copying, IsCopying};
+    ghost use Rattle.sn_run.specs.Copying.{Copying, IsRunnable};
 
     ghost Value = { Copying };
 
     ghost view = { λ c. record { breaths = c.breaths; rounds = c.rounds; input = c.input; output = c.output } };
 
-    ghost invariant = { λ c. IsCopying (record { breaths = c.breaths; rounds = c.rounds; input = c.input; output = c.output }) };
+    ghost invariant = { λ c. IsRunnable (record { breaths = c.breaths; rounds = c.rounds; input = c.input; output = c.output }) };
 }
 
-/// The file's name that a scenario has.
-fn token_name(alloc: Global, token: &[u8]) -> Result<FileName, AllocError>
-    requires { IsToken token.now }
-    ensures { IfOk result (λ name. name ≡ token.now) }
+/// Appends these words and a number, and ends the line.
+fn push_number(into: &mut Vec<u8>, words: &[u8], n: u64) -> Result<(), AllocError>
+    ensures { OnOk result (into.new.items ≡ into.old.items ++ line words.now (decimal n)) }
 {
-    match FileName::of(alloc, token) {
-        Ok(name) => Ok(name),
-        Err(NameFault::OutOfMemory) => Err(AllocError),
-        Err(NameFault::At(_)) => unreachable!(),
-    }
+    into.extend_from_slice(words)?;
+    push_decimal(into, n)?;
+    into.push(b'\n')?;
+    Ok(())
 }
 
-/// The scenario that a text of the form spells, or None where it isn't of the form.
+/// Appends these words and a file's name, and ends the line.
+fn push_file(into: &mut Vec<u8>, words: &[u8], name: &FileName) -> Result<(), AllocError>
+    ensures { OnOk result (into.new.items ≡ into.old.items ++ line words.now name.now) }
+{
+    into.extend_from_slice(words)?;
+    into.extend_from_slice(name.as_str().as_bytes())?;
+    into.push(b'\n')?;
+    Ok(())
+}
+
+/// The values of a scenario that has one capture and one output, and two breaths in all or more.
 ///
 /// # Errors
 /// Want of memory.
-pub(crate) fn copying_of(alloc: Global, text: &[u8]) -> Result<Option<CopyRun>, AllocError>
-    ensures found { IfOk result (λ found. IfSome found (IsScenario text.now)) }
-    ensures none { IfOk result (λ found. IfNone found ((c : Copying) → IsScenario text.now c → ⊥)) }
+fn values_of(alloc: Global, scenario: &Scenario) -> Result<Option<CopyRun>, AllocError>
+    ensures found { IfOk result (λ found. IfSome found (HasValues scenario.now)) }
+    ensures none { IfOk result (λ found. IfNone found ((c : Copying) → HasValues scenario.now c → ⊥)) }
 {
-    let plain = plain_text(alloc, text)?;
-    let Some(values) = values_of(&plain) else {
+    let settings = scenario.settings();
+    let (breaths, rounds) = (u64::from(settings.breaths), u64::from(settings.rounds));
+    if rounds * breaths < 2 {
         return Ok(None);
-    };
-    let input = token_name(alloc, values.input)?;
-    let output = token_name(alloc, values.output)?;
+    }
+    let (captures, outputs) = (scenario.captures(), scenario.outputs());
+    if captures.len() != 1 || outputs.len() != 1 {
+        return Ok(None);
+    }
     Ok(Some(CopyRun {
-        breaths: values.breaths,
-        rounds: values.rounds,
-        input,
-        output,
+        breaths,
+        rounds,
+        input: captures[0].copy(alloc)?,
+        output: outputs[0].copy(alloc)?,
     }))
 }
 
+/// The scenario of the form that a text spells, or None where it isn't of the form.
+///
+/// # Errors
+/// Want of memory.
+pub(crate) fn copying_of(
+    alloc: Global,
+    text: &[u8],
+    scenario: &Scenario,
+) -> Result<Option<CopyRun>, AllocError>
+    requires { scenario_of text.now ≡ Ok scenario.now }
+    ensures found { IfOk result (λ found. IfSome found (IsScenario text.now)) }
+    ensures none { IfOk result (λ found. IfNone found ((c : Copying) → IsScenario text.now c → ⊥)) }
+{
+    let Some(run) = values_of(alloc, scenario)? else {
+        return Ok(None);
+    };
+    let plain = plain_text(alloc, text)?;
+    let lines = run.lines(alloc)?;
+    if !is_same(&plain, &lines) {
+        return Ok(None);
+    }
+    Ok(Some(run))
+}
+
 impl CopyRun {
-    /// How many records are read: 102 in each breath but the first, which only links the network.
+    /// The eight lines of the scenario.
+    fn lines(&self, alloc: Global) -> Result<Vec<u8>, AllocError>
+        ensures { IfOk result (λ text. text.items ≡ copying_text self.now) }
+    {
+        let mut text = Vec::new(alloc);
+        push_number(&mut text, BEFORE_BREATHS, self.breaths)?;
+        push_number(&mut text, BEFORE_ROUNDS, self.rounds)?;
+        push_file(&mut text, BEFORE_INPUT, &self.input)?;
+        push_file(&mut text, BEFORE_OUTPUT, &self.output)?;
+        text.extend_from_slice(AFTER_OUTPUT)?;
+        Ok(text)
+    }
+
+    /// How many records are read at most: 102 in each breath but the first, which only links the
+    /// network.
     pub(crate) fn most_read(&self) -> u64
         ensures { result ≡ most_read self.now }
     {
-        102 * (self.breaths * self.rounds - 1)
+        102 * (self.rounds * self.breaths - 1)
     }
 
     /// The capture that is read and the file that is written.

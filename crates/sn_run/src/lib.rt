@@ -7,7 +7,6 @@ mod answer;
 mod command;
 mod copy;
 mod copying;
-mod lines;
 mod printing;
 mod reading;
 mod report;

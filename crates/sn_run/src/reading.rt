@@ -112,11 +112,11 @@ pub(crate) fn read_scenario<F: Files>(
     ensures err { IfErr result (λ refusal. StepEnds (seen F.tells (F.contents files.old) (F.contents files.new) (F.calls files.old) (F.calls files.new) (F.faults files.old) (F.faults files.new)) file most_scenario (RefusesText Run file) refusal.status) }
     ensures text { IfErr result (λ refusal. refusal.text.items ≡ text_of refusal.status) }
 {
-    let text = match read_text(alloc, &file, files) {
-        Ok((text, _)) => text,
+    let (text, scenario) = match read_text(alloc, &file, files) {
+        Ok(read) => read,
         Err(refusal) => return Err(refusal),
     };
-    let Ok(found) = copying_of(alloc, &text) else {
+    let Ok(found) = copying_of(alloc, &text, &scenario) else {
         return Err(out_of_memory(alloc));
     };
     match found {

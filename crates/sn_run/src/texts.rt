@@ -1,7 +1,7 @@
 //! The texts of answers.
 ghost use Rattle.sn_run.specs.Texts.{fault_text, text_line, text_of};
 ghost use Rattle.std.specs.Fmt.{decimal};
-ghost use Rattle.std.specs.Prelude.{List, [], ◌∷◌, ◌++◌, IfOk, ◌≡◌};
+ghost use Rattle.std.specs.Prelude.{List, [], ◌∷◌, ◌++◌, IfOk, IsTrue, ◌≡◌, ◌↔◌};
 
 use crate::Status;
 use sn_names::{FileName, push_decimal};
@@ -12,6 +12,13 @@ use std::alloc::{AllocError, Global};
 /// What is printed where the words are no command.
 pub(crate) const USAGE: &[u8] =
     b"usage: snabbrt run FILE, check FILE, actions FILE WORKER, load N\n";
+
+/// Whether the two are the same bytes.
+pub(crate) fn is_same(a: &[u8], b: &[u8]) -> bool
+    ensures { IsTrue result ↔ (a.now ≡ b.now) }
+{
+    a == b
+}
 
 /// A line of words and what they speak of.
 fn line_of(alloc: Global, words: &[u8], of: &[u8]) -> Result<Vec<u8>, AllocError>

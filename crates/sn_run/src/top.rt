@@ -114,7 +114,9 @@ fn answer_words<F: Files, O: Sink>(
 ///
 /// The words are those after the program's name, and the file's has 1 to 4096 bytes. The scenario is
 /// read first, and of a run its capture then; then the file is written, and last the text is printed.
-/// No memory is taken once the file is written. No thread is started, and the gate isn't called.
+///
+/// No clause says, but holds today: no memory is taken once the file is written, no thread is
+/// started, and the gate isn't called.
 pub fn snabb_main<R: Threads + Sync, F: Files, O: Sink, G: Gate>(
     rt: &R,
     alloc: Global,

@@ -1,5 +1,5 @@
 use Rattle.std.proofs.Common.{◌∙◌}
-use Rattle.sn_run.proofs.Lining.{no_worker}
+use Rattle.sn_run.proofs.Numbers.{no_worker}
 use Rattle.sn_run.proofs.command.worker_of.Goals as goal
 
 pub returns-in-None-clause-none : goal.returns-in-None-clause-none
