@@ -19,7 +19,8 @@ use Rattle.sn_run.specs.declared.command.Command.TheVariants.{Run, Check, Action
 use Rattle.sn_run.specs.declared.status.Ended.{Ended}
 use Rattle.sn_run.specs.declared.status.Status.{Status}
 use Rattle.sn_run.specs.declared.status.Status.TheVariants.{Drained, RoundsUsed, Done, BadWords, NoWorker, BadScenario, NotYet, BadPcap, ReadFault, TooLong, WriteFault, PrintFault, OutOfMemory}
-use Rattle.sn_run.proofs.Expecting.{one_content, one_form}
+use Rattle.sn_run.proofs.Expecting.{one_content}
+use Rattle.sn_run.proofs.Forming.{one_form}
 use Rattle.sn_run.proofs.Wording.{one_asked}
 
 module _ (w : Seen) where

@@ -3,7 +3,7 @@ use Rattle.std.proofs.Common.{ℕ, inl, inr, List, [], ◌∷◌, Option, Ok, re
 use Rattle.sn_outside.specs.declared.files.FileCall.{FileCall}
 use Rattle.sn_run.specs.Alone.{AloneEnds}
 use Rattle.sn_run.specs.Calls.{CallsMade, IsAfterOwn, IsOwn}
-use Rattle.sn_run.specs.Causes.{FileEnds, AfterScenario, After, IsOneRead, RefusesText, most_scenario}
+use Rattle.sn_run.specs.Causes.{FileEnds, AfterScenario, After, IsAtMostRead, RefusesText, most_scenario}
 use Rattle.sn_run.specs.Commands.{IsCommandOf}
 use Rattle.sn_run.specs.Courses.{CommandCause, Course}
 use Rattle.sn_run.specs.Reported.{RunReport}
@@ -18,7 +18,7 @@ module _ (w : Seen) (words : List (List ℕ)) where
   own_read : (file : List ℕ) (command : Command) → IsCommandOf words file command → IsOwn words file []
   own_read file command asked = record { command = command; asked = asked; first = refl }
 
-  own_hungry : (file : List ℕ) (command : Command) → IsCommandOf words file command → (calls : List FileCall) → IsOneRead file calls → Made w calls → CallsMade w words OutOfMemory
+  own_hungry : (file : List ℕ) (command : Command) → IsCommandOf words file command → (calls : List FileCall) → IsAtMostRead file calls → Made w calls → CallsMade w words OutOfMemory
   own_hungry file command asked [] one made = record { calls = []; made = made; are = inl refl }
   own_hungry file command asked (call ∷ []) one made = record {
     calls = call ∷ [];
@@ -61,7 +61,7 @@ module _ (w : Seen) (words : List (List ℕ)) where
   after_own : (file : List ℕ) → IsCommandOf words file Run → IsAfterOwn words (a_read file (Ok tt) ∷ [])
   after_own file asked = record { file = file; asked = asked; second = refl }
 
-  capture_hungry : (file name : List ℕ) → IsCommandOf words file Run → (calls : List FileCall) → IsOneRead name calls → Made w (a_read file (Ok tt) ∷ calls) → CallsMade w words OutOfMemory
+  capture_hungry : (file name : List ℕ) → IsCommandOf words file Run → (calls : List FileCall) → IsAtMostRead name calls → Made w (a_read file (Ok tt) ∷ calls) → CallsMade w words OutOfMemory
   capture_hungry file name asked [] one made = record {
     calls = _;
     made = made;

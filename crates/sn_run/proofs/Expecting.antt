@@ -23,7 +23,7 @@ use Rattle.sn_run.specs.declared.command.Command.{Command}
 use Rattle.sn_run.specs.declared.command.Command.TheVariants.{Run, Check, Actions}
 use Rattle.sn_run.specs.declared.status.Status.{Status}
 use Rattle.sn_run.specs.declared.status.Status.TheVariants.{Drained, RoundsUsed, Done, BadWords, NoWorker, BadScenario, NotYet, BadPcap, ReadFault, TooLong, WriteFault, PrintFault, OutOfMemory}
-use Rattle.sn_run.proofs.Forming.{one_scenario}
+use Rattle.sn_run.proofs.Forming.{one_form, one_scenario}
 use Rattle.sn_run.proofs.Wording.{one_asked}
 
 -- a file holds one content
@@ -35,10 +35,7 @@ short_or_over : (m : Contents) (name : List ℕ) (limit : ℕ) (bytes : List ℕ
 short_or_over m name limit bytes held short over =
     let longer : limit < length bytes = subst (λ o. IsSomeAnd o (λ b. limit < length b)) held over in omega arith
 
--- a text is of one scenario, or has one fault
-pub one_form : (text : List ℕ) (a b : ScenarioForm) → scenario_of text ≡ Ok a → scenario_of text ≡ Ok b → a ≡ b
-one_form text a b first second = let e : Ok a ≡ Ok b = sym first ∙ second in cc
-
+-- a text has one fault, or none
 one_fault_of : (text : List ℕ) (a b : ScenarioFault) → scenario_of text ≡ Err a → scenario_of text ≡ Err b → a ≡ b
 one_fault_of text a b first second = let e : Err a ≡ Err b = sym first ∙ second in cc
 

@@ -18,11 +18,12 @@ same_values form a b s t =
     let output : a.output ≡ b.output = same_element form.outputs a.output b.output s.output t.output in
     λ i. record { breaths = breaths i; rounds = rounds i; input = input i; output = output i }
 
-same_form : (text : List ℕ) (a b : ScenarioForm) → scenario_of text ≡ Ok a → scenario_of text ≡ Ok b → a ≡ b
-same_form text a b first second = let e : Ok a ≡ Ok b = sym first ∙ second in cc
+-- a text is of one scenario
+pub one_form : (text : List ℕ) (a b : ScenarioForm) → scenario_of text ≡ Ok a → scenario_of text ≡ Ok b → a ≡ b
+one_form text a b first second = let e : Ok a ≡ Ok b = sym first ∙ second in cc
 
 values_are : (text : List ℕ) (form : ScenarioForm) (c : Copying) → scenario_of text ≡ Ok form → IsScenario text c → HasValues form c
-values_are text form c read s = subst (λ f. HasValues f c) (same_form text s.form form s.read read) s.values
+values_are text form c read s = subst (λ f. HasValues f c) (one_form text s.form form s.read read) s.values
 
 -- two readings of one text are one scenario
 pub one_scenario : (text : List ℕ) (a b : Copying) → IsScenario text a → IsScenario text b → a ≡ b

@@ -1,5 +1,5 @@
 -- What stands behind an answer of a command that reads a scenario alone, and what it prints.
-use Rattle.std.specs.Prelude.{ℕ, ◌<◌, ◌≡◌, List, [], ◌∷◌, ◌++◌, codes, Ok, Option, None}
+use Rattle.std.specs.Prelude.{ℕ, ◌<◌, ◌≡◌, List, [], ◌∷◌, Ok, Option, None}
 use Rattle.sn_scenario.specs.Plans.{plan_of}
 use Rattle.sn_scenario.specs.ScenarioText.{scenario_of}
 use Rattle.sn_scenario.specs.Scenarios.{ScenarioForm}
@@ -23,7 +23,7 @@ IsDoneBy (Actions worker) form = worker < form.settings.workers
 -- what it prints then
 abbrev pub done_text : Command → ScenarioForm → List ℕ
 done_text Run form = []
-done_text Check form = codes "ok" ++ 10 ∷ []
+done_text Check form = text_of Done
 done_text (Actions worker) form = actions_text 1 (plan_of worker form)
 
 -- the file held the text of this scenario

@@ -37,15 +37,15 @@ pub record EndsRefused (w : Seen) (prior : List FileCall) (name : List ℕ) (lim
   pub made : Made w (prior ++ a_read name (Ok tt) ∷ [])
 
 -- nothing more was called, or this file was read
-abbrev pub IsOneRead : List ℕ → List FileCall → Type 0
-IsOneRead name [] = Unit {0}
-IsOneRead name (call ∷ []) = (answer : Result Unit FileFault) × (call ≡ a_read name answer)
-IsOneRead name (call ∷ next ∷ calls) = ⊥
+abbrev pub IsAtMostRead : List ℕ → List FileCall → Type 0
+IsAtMostRead name [] = Unit {0}
+IsAtMostRead name (call ∷ []) = (answer : Result Unit FileFault) × (call ≡ a_read name answer)
+IsAtMostRead name (call ∷ next ∷ calls) = ⊥
 
 -- Want of memory ended the command, after these calls and the read of this file at the latest.
 pub record EndsHungry (w : Seen) (prior : List FileCall) (name : List ℕ) : Type 0 where
   pub calls : List FileCall
-  pub one : IsOneRead name calls
+  pub one : IsAtMostRead name calls
   pub made : Made w (prior ++ calls)
 
 -- a file ended the command with this answer, by its read or by what it holds

@@ -1,4 +1,4 @@
-//! The files that a run reads.
+//! The files that a command reads.
 ghost use Rattle.sn_pcap.specs.Grammar.{PcapText};
 ghost use Rattle.sn_pcap.specs.Places.{payloads_of};
 ghost use Rattle.sn_run.specs.Causes.{most_scenario, most_capture, RefusesText, RefusesCapture};
