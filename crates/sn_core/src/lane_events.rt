@@ -6,7 +6,6 @@ ghost use Rattle.sn_core.specs.State.{core_of};
 
 use crate::events::{Event, Side, Stepped};
 use crate::machine::Machine;
-use crate::parts::Packet;
 
 impl Machine {
     /// An end comes up.
@@ -45,7 +44,7 @@ impl Machine {
         Stepped::Done
     }
 
-    /// The receiver gives the emptied place back.
+    /// The receiver gives all emptied places back.
     pub fn release(&mut self, lane: u32) -> Stepped
         requires { IsKept (core_of self.old) }
         ensures { IsStep (core_of self.old) (Event.Release lane) result (core_of self.new) }
@@ -58,19 +57,19 @@ impl Machine {
         Stepped::Done
     }
 
-    /// The transmitter takes the laid packet back.
+    /// The transmitter takes the packet back that was laid last.
     pub fn take_back(&mut self, lane: u32) -> Stepped
         ensures { IsStep (core_of self.old) (Event.TakeBack lane) result (core_of self.new) }
     {
         let i = lane as usize;
-        if i >= self.lanes.len() || !self.lanes[i].laid().is_some() {
+        if i >= self.lanes.len() || !self.lanes[i].has_laid() {
             return Stepped::NotEnabled;
         }
-        self.lanes[i].set_laid(None);
+        self.lanes[i].take_back();
         Stepped::Done
     }
 
-    /// The closing end gives the emptied place back.
+    /// The closing end gives all emptied places back.
     pub fn drain_release(&mut self, lane: u32, side: Side) -> Stepped
         requires { IsKept (core_of self.old) }
         ensures { IsStep (core_of self.old) (Event.DrainRelease lane side) result (core_of self.new) }
@@ -120,16 +119,16 @@ impl Machine {
         }
         let seat = self.lanes[i].seat(Side::Tx) as usize;
         if !self.lanes[i].can_lay()
-            || !self.may_go(packet, seat)
-            || self.seats[seat].claims(packet)
+            || !self.may_hand_over(packet, seat)
+            || self.seats[seat].has_claimed(packet)
         {
             return Stepped::NotEnabled;
         }
-        self.lanes[i].set_laid(Some(packet));
+        self.lanes[i].lay(packet);
         Stepped::Done
     }
 
-    /// The laid packet joins the queue, with its turn raised.
+    /// All laid packets join the queue, with their turns raised.
     pub fn publish(&mut self, lane: u32) -> Stepped
         requires { IsKept (core_of self.old) }
         ensures { IsStep (core_of self.old) (Event.Publish lane) result (core_of self.new) }
@@ -138,18 +137,13 @@ impl Machine {
         if i >= self.lanes.len() {
             return Stepped::NotEnabled;
         }
-        let Some(number) = self.lanes[i].laid() else {
+        let Some(number) = self.lanes[i].first_laid() else {
             return Stepped::NotEnabled;
         };
         let seat = self.lanes[i].seat(Side::Tx) as usize;
-        let Some(turn) = self.seats[seat].turn(number) else {
-            return Stepped::NotEnabled;
-        };
-        self.lanes[i].publish(Packet {
-            number,
-            turn: turn + 1,
-        });
-        self.seats[seat].let_go(number);
+        let packet = self.seats[seat].handed_over(number);
+        self.lanes[i].publish(packet);
+        self.seats[seat].remove(number);
         Stepped::Done
     }
 }

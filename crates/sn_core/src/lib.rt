@@ -9,12 +9,14 @@
 // - `steps`: one step of the machine, by its event
 // - `owners`: where a packet stands in the machine
 // - `state`: the core as callers see it
+// - `laws`: what each event keeps of one lane, for those who read a lane off a real ring
 #![tactic(auto)]
 
 mod cell_events;
 mod events;
 mod lane;
 mod lane_events;
+mod laws;
 mod machine;
 mod owners;
 mod parts;
@@ -26,5 +28,6 @@ mod steps;
 mod tests;
 
 pub use events::{Event, Owner, Side, Stepped};
-pub use parts::{Cell, Field, MAX_TURN, Packet, Phase, Transfer};
+pub use laws::{emptied_queues, lanes_stay_sound};
+pub use parts::{Cell, Claim, Field, MAX_TURN, Packet, Phase};
 pub use state::CoreState;

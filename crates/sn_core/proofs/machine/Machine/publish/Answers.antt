@@ -1,15 +1,16 @@
-use Rattle.std.proofs.Common.{◌≡◌, ◌<◌, length, [], ◌∷◌, arith, sym, ◌∙◌, subst}
+use Rattle.std.proofs.Common.{◌≡◌, ◌<◌, length, [], ◌∷◌, arith, sym, ap, ◌∙◌, subst, slice_get, Some, true}
+use Rattle.std.specs.Prelude.{unwrap_or}
 use Rattle.sn_core.specs.State.{core_of}
 use Rattle.sn_core.specs.Lane.{published}
-use Rattle.sn_core.specs.Seat.{letting_go}
-use Rattle.sn_core.specs.Core.{handed_over}
-use Rattle.sn_core.proofs.KeptReads.{end_in, held_in, laid_fresh}
-use Rattle.sn_core.proofs.StepsDone.{publish_done, read_is, read_at}
+use Rattle.sn_core.specs.Seat.{turn_of, highest_turn, without_packet, handed_over, is_fresh}
+use Rattle.sn_core.proofs.Bounds.{end_in, held_in, laid_fresh, fresh_turn, first_laid, lane_at, one_laid}
+use Rattle.sn_core.proofs.Reservations.{fresh_some}
+use Rattle.sn_core.proofs.EventResults.{publish_done, read_is, read_at}
 use Rattle.sn_core.specs.declared.events.Side.TheVariants.{Tx}
 use Rattle.sn_core.proofs.machine.Machine.publish.Goals as goal
 
-pub overflow_add-turn : goal.overflow_add-turn
-overflow_add-turn c =
+pub handed_over-packet-requires : goal.handed_over-packet-requires
+handed_over-packet-requires c =
     let core = core_of c.args.self.now in
     let i = c.args.lane in
     let lane = c.index.result.now in
@@ -19,22 +20,28 @@ overflow_add-turn c =
     let seat_is : c.seat-seat.result ≡ lane.tx_seat = subst (λ x. c.seat-seat.result ≡ x.tx_seat) seat_lane c.seat-seat.ensures in
     let seat_in : c.seat-seat.result < length core.seats = omega (arith, seat_is, end_in core c.requires i lane Tx at) in
     let there = read_at core.seats c.seat-seat.result c.index-3.result.now seat_in c.index-3.ensures in
-    let fresh = laid_fresh core c.requires i c.seat-seat.result c.in-Some.number c.in-Some-turn.turn lane c.index-3.result.now at (sym c.laid.ensures ∙ c.in-Some.is) seat_is there (sym c.turn.ensures ∙ c.in-Some-turn.is) in
-    omega (arith, fresh)
+    let laid = one_laid core c.requires i lane c.in-Some.number at (sym c.first_laid.ensures ∙ c.in-Some.is) in
+    let there_tx = subst (λ s. slice_get core.seats s ≡ Some c.index-3.result.now) seat_is there in
+    fresh_turn (turn_of c.in-Some.number c.index-3.result.now)
+    (laid_fresh core c.requires i c.in-Some.number lane c.index-3.result.now at (first_laid lane c.in-Some.number [] laid) there_tx)
 
-pub let_go-requires : goal.let_go-requires
-let_go-requires c =
+pub remove-requires : goal.remove-requires
+remove-requires c =
     let core = core_of c.args.self.now in
     let i = c.args.lane in
-    let lane = c.index-2.result.now in
+    let lane = c.index.result.now in
     let lane_in : i < length core.lanes = omega (arith, c.args.self.now.lanes.ok.0) in
-    let at = read_at core.lanes i lane lane_in c.index-2.ensures in
+    let at = read_at core.lanes i lane lane_in c.index.ensures in
     let seat = c.index-3.result.now in
-    let seat_in : c.seat-seat.result < length core.seats = omega (arith, c.seat-seat.ensures, end_in core c.requires i lane Tx at) in
+    let seat_lane = read_is core.lanes i lane c.index-2.result.now at c.index-2.ensures in
+    let seat_is : c.seat-seat.result ≡ lane.tx_seat = subst (λ x. c.seat-seat.result ≡ x.tx_seat) seat_lane c.seat-seat.ensures in
+    let seat_in : c.seat-seat.result < length core.seats = omega (arith, seat_is, end_in core c.requires i lane Tx at) in
     let there = read_at core.seats c.seat-seat.result seat seat_in c.index-3.ensures in
     let again = read_is core.seats c.seat-seat.result seat c.index_mut-2.result.now there c.index_mut-2.ensures.value in
-    let within = held_in core c.requires c.seat-seat.result c.in-Some.number c.in-Some-turn.turn seat there (sym c.turn.ensures ∙ c.in-Some-turn.is) in
-    subst (λ x. c.in-Some.number < length x.held) (sym again) within
+    let laid = one_laid core c.requires i lane c.in-Some.number at (sym c.first_laid.ensures ∙ c.in-Some.is) in
+    let there_tx = subst (λ s. slice_get core.seats s ≡ Some seat) seat_is there in
+    let fresh = laid_fresh core c.requires i c.in-Some.number lane seat at (first_laid lane c.in-Some.number [] laid) there_tx in
+    subst (λ x. c.in-Some.number < length x.held) (sym again) (held_in seat c.in-Some.number (fresh_some (turn_of c.in-Some.number seat) fresh))
 
 pub returns : goal.returns
 returns c =
@@ -50,7 +57,7 @@ returns c =
     let seat = c.index-3.result.now in
     let there = read_at core.seats c.seat-seat.result seat seat_in c.index-3.ensures in
     let again = read_is core.seats c.seat-seat.result seat c.index_mut-2.result.now there c.index_mut-2.ensures.value in
-    publish_done core i c.seat-seat.result c.in-Some.number c.in-Some-turn.turn lane c.publish.new.self seat c.let_go.new.self at
-    (sym c.laid.ensures ∙ c.in-Some.is) seat_is there (sym c.turn.ensures ∙ c.in-Some-turn.is)
-    (subst (λ x. c.publish.new.self ≡ published (handed_over c.in-Some.number c.in-Some-turn.turn ∷ []) x) mut_lane c.publish.ensures)
-    (subst (λ x. c.let_go.new.self ≡ letting_go c.in-Some.number x) again c.let_go.ensures)
+    publish_done core i c.seat-seat.result c.in-Some.number lane c.publish.new.self seat c.remove.new.self c.handed_over-packet.result at
+    (one_laid core c.requires i lane c.in-Some.number at (sym c.first_laid.ensures ∙ c.in-Some.is)) seat_is there c.handed_over-packet.ensures
+    (subst (λ x. c.publish.new.self ≡ published (c.handed_over-packet.result ∷ []) x) mut_lane c.publish.ensures)
+    (subst (λ x. c.remove.new.self ≡ without_packet c.in-Some.number x) again c.remove.ensures)
