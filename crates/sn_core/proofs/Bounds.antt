@@ -13,11 +13,11 @@ use Rattle.sn_core.specs.declared.parts.Cell.TheVariants.{Empty, Busy, Full}
 use Rattle.sn_core.specs.declared.parts.Claim.{Claim}
 use Rattle.sn_core.specs.declared.parts.Phase.{Phase}
 use Rattle.sn_core.specs.declared.parts.Phase.TheVariants.{Taking, Giving, GivenIn}
-use Rattle.sn_core.specs.Lane.{LaneState, most_laid, seat_of, first_filled, laid_count}
+use Rattle.sn_core.specs.Lane.{LaneState, seat_of, first_filled, laid_count}
 use Rattle.sn_core.specs.Seat.{SeatState, Transfer, highest_turn, turn_of, is_fresh, claims_of, claims_in, claim_count, cell_count, pends, has_given, is_given_in}
 use Rattle.sn_core.specs.Core.{Core, pool, only}
 use Rattle.sn_core.specs.Sound.{LaneIsSound, SeatIsSound, turn_at, cell_count_in, is_busy}
-use Rattle.sn_core.specs.Kept.{IsKept, JoinsSeats, Gives, IsGiving, GivesFresh}
+use Rattle.sn_core.specs.Invariant.{IsKept, JoinsSeats, Gives, IsGiving, GivesFresh}
 use Rattle.sn_core.proofs.Weights.{All_at, slot_from_turn}
 use Rattle.sn_core.proofs.Counts.{below_pool, lane_counts, cell_counts}
 
@@ -129,11 +129,3 @@ giving (Some transfer) e = go transfer.phase e where
 pub given_fresh : (core : Core) → IsKept core → (s : ℕ) (seat : SeatState) (claim : Claim) → slice_get core.seats s ≡ Some seat → claims_of seat ≡ claim ∷ [] → is_given_in seat ≡ true → is_fresh (turn_of claim.packet seat) ≡ true
 given_fresh core kept s seat claim there one given =
     (given_at core kept s seat there).fresh claim.packet (giving seat.pending given) (omega (arith, claimed_packet seat claim one))
-
--- where one is laid, only that one is
-pub one_laid : (core : Core) → IsKept core → (i : ℕ) (lane : LaneState) (n : ℕ) → slice_get core.lanes i ≡ Some lane → slice_get lane.laid 0 ≡ Some n → lane.laid ≡ n ∷ []
-one_laid core kept i lane n at first = go lane.laid (lane_at core kept i lane at).laid.few first where
-  go : (ns : List ℕ) → length ns ≤ most_laid → slice_get ns 0 ≡ Some n → ns ≡ n ∷ []
-  go [] few e = cc
-  go (m ∷ []) few e = ap (λ k. k ∷ []) (same_Some m n e)
-  go (m ∷ k ∷ ns) few e = absurd (omega (arith, few))

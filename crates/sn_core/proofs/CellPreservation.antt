@@ -15,7 +15,7 @@ use Rattle.sn_core.specs.declared.parts.Phase.TheVariants.{Taking, Giving, Given
 use Rattle.sn_core.specs.Seat.{SeatState, Transfer, most_claimed, turn_of, is_fresh, with_packet, with_packets, without_packet, handed_over, with_pending, claims_in, claims_of, claim_count, cell_count, is_given_in, joined}
 use Rattle.sn_core.specs.Core.{Core, pool, with_seat, with_cell, with_cells, written, is_empty_cell, full_packet, packets_of, paired, may_hand_over}
 use Rattle.sn_core.specs.Sound.{laid_total, claim_total, cell_count_in, is_busy, SeatIsSound, ClaimsAgree}
-use Rattle.sn_core.specs.Kept.{IsGiving, GivesFresh, IsKept}
+use Rattle.sn_core.specs.Invariant.{IsGiving, GivesFresh, IsKept}
 use Rattle.sn_core.proofs.Weights.{weigh-with_cell, weigh-with_seat, cell_weight-full, cell_weight-empty, cell_weight-busy, seat_weight-with_packet, seat_weight-without_packet, same_seat_weight, empty_slot}
 use Rattle.sn_core.proofs.Counts.{not_held_in_cell}
 use Rattle.sn_core.proofs.Balances.{moves}

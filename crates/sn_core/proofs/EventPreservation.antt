@@ -17,7 +17,7 @@ use Rattle.sn_core.specs.Seat.{SeatState, Transfer, pends, takes, gives, in_phas
 use Rattle.sn_core.specs.Core.{Core, after, home, only, take_done, with_seat, with_cells, IsStep}
 use Rattle.sn_core.specs.declared.parts.Cell.TheVariants.{Empty}
 use Rattle.sn_core.specs.Sound.{SeatIsSound}
-use Rattle.sn_core.specs.Kept.{IsGiving, Gives, IsKept}
+use Rattle.sn_core.specs.Invariant.{IsGiving, Gives, IsKept}
 use Rattle.sn_core.proofs.LaneSoundness.{taken_sound, drained_sound, something_in}
 use Rattle.sn_core.proofs.EnabledEvents.{lane_step_cases, seat_step_cases, take_first_cases, lay_cases, publish_cases, take_claim_cases, take_done_cases, give_claim_cases, give_done_cases, restart_cases}
 use Rattle.sn_core.proofs.Bounds.{lane_at, seat_at}

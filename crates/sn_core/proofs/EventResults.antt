@@ -49,11 +49,3 @@ pub give_done_done :
     new_seat ≡ with_pending None (without_packet claim.packet seat) →
     give_done core s ≡ Some (record { cells = slice_set core.cells claim.cell (Full packet); lanes = core.lanes; seats = slice_set core.seats s new_seat })
 give_done_done core s seat new_seat claim packet there one given packet_is new_is = rw (new_is, packet_is, there, one, given) refl
-
-pub publish_done :
-    (core : Core) (i s number : ℕ) (lane new_lane : LaneState) (seat new_seat : SeatState) (packet : Packet) →
-    slice_get core.lanes i ≡ Some lane → lane.laid ≡ number ∷ [] → s ≡ lane.tx_seat → slice_get core.seats s ≡ Some seat → packet ≡ handed_over seat number →
-    new_lane ≡ published (packet ∷ []) lane → new_seat ≡ without_packet number seat →
-    publish core i ≡ Some (record { cells = core.cells; lanes = slice_set core.lanes i new_lane; seats = slice_set core.seats s new_seat })
-publish_done core i s number lane new_lane seat new_seat packet at laid seat_is there packet_is lane_is new_is =
-    rw (lane_is, new_is, packet_is, at, laid, ← seat_is, there) refl

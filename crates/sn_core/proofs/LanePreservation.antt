@@ -1,26 +1,28 @@
 -- Each event on a lane keeps the machine's facts.
-use Rattle.std.proofs.Common.{◌≡◌, ℕ, ◌+◌, ◌-◌, ◌<◌, ◌≤◌, ◌^◌, Bool, true, false, not, ◌&&◌, List, [], ◌∷◌, ◌++◌, length, take, map, Some, None, is_some, refl, sym, ap, ◌∙◌, subst, arith, slice_get, slice_set, append_assoc, ◌≢◌, zero, suc, cond, eqb}
+use Rattle.std.proofs.Common.{◌≡◌, ℕ, ◌+◌, ◌-◌, ◌<◌, ◌≤◌, ◌^◌, Bool, true, false, not, ◌&&◌, Option, List, [], ◌∷◌, ◌++◌, length, take, drop, get_or, map, Some, None, is_some, refl, sym, ap, ◌∙◌, subst, arith, slice_get, slice_set, append_assoc, ◌≢◌, zero, suc, cond, eqb}
 use Rattle.std.specs.Prelude.{unwrap_or}
 use Rattle.std.specs.List.{list_any, sum_by}
 use Rattle.std.proofs.lemmas.Bool.{and_parts, not-true, eq-eqb, ne_eqb, cases_eq}
-use Rattle.std.proofs.lemmas.List.{length-set, length-append}
+use Rattle.std.proofs.lemmas.Option.{same_Some, slice_get-get_or}
+use Rattle.std.proofs.lemmas.List.{length-set}
 use Rattle.std.proofs.lemmas.List.Sums.{sum_by-cons}
 use Rattle.sn_core.specs.declared.events.Side.{Side}
 use Rattle.sn_core.specs.declared.events.Side.TheVariants.{Tx, Rx}
 use Rattle.sn_core.specs.declared.parts.Packet.{Packet}
 use Rattle.sn_core.specs.declared.parts.Field.TheVariants.{Gone}
-use Rattle.sn_core.specs.Lane.{LaneState, seat_of, is_down, closed_by, first_filled, laid_count, lays, can_attach, attached, can_detach, detached, can_reset, was_reset, taken, released, can_lay, with_laid, has_laid, published, taken_back}
-use Rattle.sn_core.specs.Seat.{SeatState, turn_of, with_packet, without_packet, without_packets, handed_over, is_fresh, has_claimed, claim_count}
-use Rattle.sn_core.specs.Core.{Core, with_lane, with_seat, may_hand_over, may_lay}
+use Rattle.sn_core.specs.Lane.{LaneState, free_lane, seat_of, is_down, closed_by, first_filled, laid_count, lays, can_attach, attached, can_detach, detached, can_reset, was_reset, taken, released, can_lay, with_laid, has_laid, published_some, published, taken_back}
+use Rattle.sn_core.specs.Seat.{SeatState, idle_seat, turn_of, with_packet, without_packet, without_packets, handed_over, is_fresh, has_claimed, claim_count}
+use Rattle.sn_core.specs.declared.events.Event.TheVariants.{Publish}
+use Rattle.sn_core.specs.Core.{Core, with_lane, with_seat, may_hand_over, may_lay, publish, next}
 use Rattle.sn_core.specs.Sound.{LaneIsSound, SeatIsSound, laid_total, claim_total}
-use Rattle.sn_core.specs.Kept.{IsKept}
+use Rattle.sn_core.specs.Invariant.{IsKept}
 use Rattle.sn_core.proofs.Weights.{weigh-with_lane, weigh-with_seat, lane_weight-taken, lane_weight-released, lane_weight-published, seat_weight-with_packet, seat_weight-without_packet, same_lane_weight, sum_by-written}
 use Rattle.sn_core.proofs.Counts.{not_held_in_lane}
 use Rattle.sn_core.proofs.Balances.{moves, put_of}
 use Rattle.sn_core.proofs.Writes.{get_same, write_twice, turn_of-with_packet, turn_of-without_packet}
-use Rattle.sn_core.proofs.LaneSoundness.{attached_sound, detached_sound, reset_sound, released_sound, laid_sound, taken_back_sound, published_some, published_some_sound}
+use Rattle.sn_core.proofs.LaneSoundness.{attached_sound, detached_sound, reset_sound, released_sound, laid_sound, taken_back_sound, published_some_sound}
 use Rattle.sn_core.proofs.Reservations.{Reserved, fresh_some, reserved_lane, reserved_lay, reserved_seat, agree_seat, unlaid_total, unclaimed_count, unclaimed_total, laid_total-written, laid_within, claim_within}
-use Rattle.sn_core.proofs.Bounds.{first_in, table_is, laid_fresh, fresh_turn, fresh_held, first_laid, lane_at, seat_at, given_at, put_below}
+use Rattle.sn_core.proofs.Bounds.{end_in, first_in, table_is, laid_fresh, fresh_turn, fresh_held, first_laid, lane_at, seat_at, given_at, put_below}
 use Rattle.sn_core.proofs.Preservation.{reserved_of, kept_from, lanes_after, lanes_beside_seat, seats_after, seats_same, seats_beside_lane, seat_sound_same, gives_fresh_same, claims_held, unlaid_if, unclaimed_if, keeps_lane, keeps_laid}
 
 -- 1 where the test holds
@@ -233,38 +235,137 @@ published_twice packet packets rest lane =
     ap (λ q. record lane { queue = q; put = lane.put + 1 + length packets; laid = [] }) (append_assoc lane.queue (Some packet ∷ []) (map Some packets))
     ∙ ap (λ k. record lane { queue = lane.queue ++ map Some (packet ∷ packets); put = k; laid = [] }) (let e : lane.put + 1 + length packets ≡ lane.put + length (packet ∷ packets) = omega arith in e)
 
--- all laid packets move to the end of the queue
-pub keeps_publish : (ns : List ℕ) (core : Core) (i : ℕ) → IsKept core → (lane : LaneState) (seat : SeatState) → slice_get core.lanes i ≡ Some lane → slice_get core.seats lane.tx_seat ≡ Some seat → lane.laid ≡ ns → 0 < length ns →
-    IsKept (with_seat (with_lane core i (published (map (handed_over seat) ns) lane)) lane.tx_seat (without_packets ns seat))
-keeps_publish [] core i kept lane seat at there laid some = absurd (omega (arith, some))
-keeps_publish (n ∷ []) core i kept lane seat at there laid some = keeps_publish_first core i n [] kept lane seat at there laid
-keeps_publish (n ∷ m ∷ ms) core i kept lane seat at there laid some =
-    subst (λ x. IsKept x) same
-    (keeps_publish (m ∷ ms) next i (keeps_publish_first core i n (m ∷ ms) kept lane seat at there laid) first (without_packet n seat)
-    (get_same core.lanes i lane first at) (get_same core.seats lane.tx_seat seat (without_packet n seat) there) refl (omega arith)) where
-      first : LaneState
-      first = published_some (handed_over seat n ∷ []) (m ∷ ms) lane
+-- the lane without the first of what was laid, and the core then
+abbrev pub first_published : SeatState → ℕ → List ℕ → LaneState → LaneState
+first_published seat n rest lane = published_some (handed_over seat n ∷ []) rest lane
 
-      next : Core
-      next = with_seat (with_lane core i (published_some (handed_over seat n ∷ []) (m ∷ ms) lane)) lane.tx_seat (without_packet n seat)
+abbrev pub after_first : Core → ℕ → LaneState → SeatState → ℕ → List ℕ → Core
+after_first core i lane seat n rest = with_seat (with_lane core i (first_published seat n rest lane)) lane.tx_seat (without_packet n seat)
 
+abbrev pub after_all : Core → ℕ → LaneState → SeatState → List ℕ → Core
+after_all core i lane seat ns = with_seat (with_lane core i (published (map (handed_over seat) ns) lane)) lane.tx_seat (without_packets ns seat)
+
+-- the rest after the first one, or all at once
+pub first_then_rest : (core : Core) (i n m : ℕ) (ms : List ℕ) → IsKept core → (lane : LaneState) (seat : SeatState) → slice_get core.lanes i ≡ Some lane → lane.laid ≡ n ∷ m ∷ ms →
+    after_all (after_first core i lane seat n (m ∷ ms)) i (first_published seat n (m ∷ ms) lane) (without_packet n seat) (m ∷ ms) ≡ after_all core i lane seat (n ∷ m ∷ ms)
+first_then_rest core i n m ms kept lane seat at laid =
+    ap (λ ls. record { cells = core.cells; lanes = ls; seats = slice_set (slice_set core.seats lane.tx_seat (without_packet n seat)) lane.tx_seat (without_packets (m ∷ ms) (without_packet n seat)) })
+    (write_twice core.lanes i (first_published seat n (m ∷ ms) lane) (published (map (handed_over (without_packet n seat)) (m ∷ ms)) (first_published seat n (m ∷ ms) lane)) ∙ ap (λ l. slice_set core.lanes i l) lane_is)
+    ∙ ap (λ ss. record { cells = core.cells; lanes = slice_set core.lanes i (published (map (handed_over seat) (n ∷ m ∷ ms)) lane); seats = ss })
+    (write_twice core.seats lane.tx_seat (without_packet n seat) (without_packets (m ∷ ms) (without_packet n seat))) where
       once : sum_by (λ other. cond (eqb other n) 1 0) (m ∷ ms) ≡ 0
       once =
           let one : one_if (eqb n n) ≡ 1 = ap one_if (eq-eqb n n refl) in
           omega (arith, one, ap (λ l. sum_by (λ other. cond (eqb other n) 1 0) l) laid, sum_by-cons (λ other. cond (eqb other n) 1 0) n (m ∷ ms), kept.sound.laid.once n, laid_within core i n lane at)
 
-      lane_is : published (map (handed_over (without_packet n seat)) (m ∷ ms)) (published_some (handed_over seat n ∷ []) (m ∷ ms) lane) ≡ published (map (handed_over seat) (n ∷ m ∷ ms)) lane
+      lane_is : published (map (handed_over (without_packet n seat)) (m ∷ ms)) (first_published seat n (m ∷ ms) lane) ≡ published (map (handed_over seat) (n ∷ m ∷ ms)) lane
       lane_is =
-          ap (λ ps. published ps (published_some (handed_over seat n ∷ []) (m ∷ ms) lane)) (handed_over_same seat n (m ∷ ms) once)
+          ap (λ ps. published ps (first_published seat n (m ∷ ms) lane)) (handed_over_same seat n (m ∷ ms) once)
           ∙ published_twice (handed_over seat n) (map (handed_over seat) (m ∷ ms)) (m ∷ ms) lane
 
-      core_with : List LaneState → List SeatState → Core
-      core_with lanes seats = record { cells = core.cells; lanes = lanes; seats = seats }
+-- all laid packets move to the end of the queue
+pub keeps_publish : (ns : List ℕ) (core : Core) (i : ℕ) → IsKept core → (lane : LaneState) (seat : SeatState) → slice_get core.lanes i ≡ Some lane → slice_get core.seats lane.tx_seat ≡ Some seat → lane.laid ≡ ns → 0 < length ns → IsKept (after_all core i lane seat ns)
+keeps_publish [] core i kept lane seat at there laid some = absurd (omega (arith, some))
+keeps_publish (n ∷ []) core i kept lane seat at there laid some = keeps_publish_first core i n [] kept lane seat at there laid
+keeps_publish (n ∷ m ∷ ms) core i kept lane seat at there laid some =
+    subst (λ x. IsKept x) (first_then_rest core i n m ms kept lane seat at laid)
+    (keeps_publish (m ∷ ms) (after_first core i lane seat n (m ∷ ms)) i (keeps_publish_first core i n (m ∷ ms) kept lane seat at there laid) (first_published seat n (m ∷ ms) lane) (without_packet n seat)
+    (get_same core.lanes i lane (first_published seat n (m ∷ ms) lane) at) (get_same core.seats lane.tx_seat seat (without_packet n seat) there) refl (omega arith))
 
-      same : with_seat (with_lane (with_seat (with_lane core i (published_some (handed_over seat n ∷ []) (m ∷ ms) lane)) lane.tx_seat (without_packet n seat)) i (published (map (handed_over (without_packet n seat)) (m ∷ ms)) (published_some (handed_over seat n ∷ []) (m ∷ ms) lane))) lane.tx_seat (without_packets (m ∷ ms) (without_packet n seat))
-          ≡ with_seat (with_lane core i (published (map (handed_over seat) (n ∷ m ∷ ms)) lane)) lane.tx_seat (without_packets (n ∷ m ∷ ms) seat)
-      same =
-          ap (λ ls. record { cells = core.cells; lanes = ls; seats = slice_set (slice_set core.seats lane.tx_seat (without_packet n seat)) lane.tx_seat (without_packets (m ∷ ms) (without_packet n seat)) })
-          (write_twice core.lanes i first (published (map (handed_over (without_packet n seat)) (m ∷ ms)) first) ∙ ap (λ l. slice_set core.lanes i l) lane_is)
-          ∙ ap (λ ss. record { cells = core.cells; lanes = slice_set core.lanes i (published (map (handed_over seat) (n ∷ m ∷ ms)) lane); seats = ss })
-          (write_twice core.seats lane.tx_seat (without_packet n seat) (without_packets (m ∷ ms) (without_packet n seat)))
+-- a loop that publishes one after another: what is left of it, and where it leads
+abbrev pub laid_in : Option LaneState → List ℕ
+laid_in None = []
+laid_in (Some lane) = lane.laid
+
+pub record PublishesRest (old core : Core) (i count done : ℕ) : Type 0 where
+  pub kept : IsKept core
+  pub same : next core (Publish i) ≡ next old (Publish i)
+  pub left : length (laid_in (slice_get core.lanes i)) + done ≡ count
+  pub lanes : length core.lanes ≡ length old.lanes
+
+pub publishes_next : (old core new : Core) (i count done : ℕ) → PublishesRest old core i count done → (lane : LaneState) (seat : SeatState) (n : ℕ) (rest : List ℕ) → slice_get core.lanes i ≡ Some lane → slice_get core.seats lane.tx_seat ≡ Some seat → lane.laid ≡ n ∷ rest →
+    new ≡ after_first core i lane seat n rest → PublishesRest old new i count (done + 1)
+publishes_next old core new i count done before lane seat n rest at there laid is =
+    subst (λ x. PublishesRest old x i count (done + 1)) (sym is)
+    (record {
+      kept = keeps_publish_first core i n rest before.kept lane seat at there laid;
+      same = go rest laid ∙ before.same;
+      left = omega (arith, before.left, now, was);
+      lanes = omega (arith, before.lanes, length-set core.lanes i (first_published seat n rest lane));
+    }) where
+      first : (rest : List ℕ) → slice_get (slice_set core.lanes i (first_published seat n rest lane)) i ≡ Some (first_published seat n rest lane)
+      first rest = get_same core.lanes i lane (first_published seat n rest lane) at
+
+      was : length (laid_in (slice_get core.lanes i)) ≡ 1 + length rest
+      was = rw (at, laid) (omega arith)
+
+      now : length (laid_in (slice_get (slice_set core.lanes i (first_published seat n rest lane)) i)) ≡ length rest
+      now = rw (get_same core.lanes i lane (first_published seat n rest lane) at) refl
+
+      go : (rest : List ℕ) → lane.laid ≡ n ∷ rest → next (after_first core i lane seat n rest) (Publish i) ≡ next core (Publish i)
+      go [] laid =
+          let left : next (after_first core i lane seat n []) (Publish i) ≡ after_first core i lane seat n [] =
+          rw (get_same core.lanes i lane (first_published seat n [] lane) at, get_same core.seats lane.tx_seat seat (without_packet n seat) there) refl in
+          let right : next core (Publish i) ≡ after_all core i lane seat (n ∷ []) = rw (at, there, laid) refl in
+          left ∙ sym right
+      go (m ∷ ms) laid =
+          let left : next (after_first core i lane seat n (m ∷ ms)) (Publish i) ≡ after_all (after_first core i lane seat n (m ∷ ms)) i (first_published seat n (m ∷ ms) lane) (without_packet n seat) (m ∷ ms) =
+          rw (get_same core.lanes i lane (first_published seat n (m ∷ ms) lane) at, get_same core.seats lane.tx_seat seat (without_packet n seat) there) refl in
+          let right : next core (Publish i) ≡ after_all core i lane seat (n ∷ m ∷ ms) = rw (at, there, laid) refl in
+          left ∙ first_then_rest core i n m ms before.kept lane seat at laid ∙ sym right
+
+pub publishes_first : (old : Core) (i count : ℕ) → IsKept old → (lane : LaneState) → slice_get old.lanes i ≡ Some lane → count ≡ length lane.laid → PublishesRest old old i count 0
+publishes_first old i count kept lane at count_is =
+    record { kept = kept; same = refl; left = (let here : length (laid_in (slice_get old.lanes i)) ≡ length lane.laid = rw at refl in omega (arith, count_is, here)); lanes = refl }
+
+pub publishes_more : (old core new : Core) (i count done : ℕ) → PublishesRest old core i count done → i < length core.lanes → done < count →
+    ((lane : LaneState) (seat : SeatState) (n : ℕ) (rest : List ℕ) → slice_get core.lanes i ≡ Some lane → slice_get core.seats lane.tx_seat ≡ Some seat → lane.laid ≡ n ∷ rest → new ≡ after_first core i lane seat n rest) → PublishesRest old new i count (done + 1)
+publishes_more old core new i count done before within more is = go lane.laid refl (omega (arith, more, before.left, here)) where
+  lane : LaneState
+  lane = get_or core.lanes i (free_lane 0 0)
+
+  at : slice_get core.lanes i ≡ Some (get_or core.lanes i (free_lane 0 0))
+  at = slice_get-get_or core.lanes i (free_lane 0 0) within
+
+  here : length (laid_in (slice_get core.lanes i)) ≡ length (get_or core.lanes i (free_lane 0 0)).laid
+  here = rw at refl
+
+  go : (ns : List ℕ) → (get_or core.lanes i (free_lane 0 0)).laid ≡ ns → 0 < length ns → PublishesRest old new i count (done + 1)
+  go [] laid some = absurd (omega (arith, some))
+  go (n ∷ rest) laid some =
+      let there = slice_get-get_or core.seats lane.tx_seat (idle_seat 0) (end_in core before.kept i lane Tx at) in
+      publishes_next old core new i count done before lane (get_or core.seats lane.tx_seat (idle_seat 0)) n rest at there laid
+      (is lane (get_or core.seats lane.tx_seat (idle_seat 0)) n rest at there laid)
+
+-- where nothing is left, it has led there
+no_numbers : (ns : List ℕ) → length ns ≡ 0 → ns ≡ []
+no_numbers [] e = refl
+no_numbers (n ∷ ns) e = absurd (omega (arith, e))
+
+-- the packet in front of what is laid has joined the queue
+pub first_done : (core : Core) (i s n number : ℕ) (lane new_lane : LaneState) (seat new_seat : SeatState) (packet : Packet) (rest : List ℕ) → lane.laid ≡ n ∷ rest → slice_get lane.laid 0 ≡ Some number → s ≡ lane.tx_seat → packet ≡ handed_over seat number →
+    new_lane ≡ published_some (packet ∷ []) (drop 1 lane.laid) lane → new_seat ≡ without_packet number seat → record { cells = core.cells; lanes = slice_set core.lanes i new_lane; seats = slice_set core.seats s new_seat } ≡ after_first core i lane seat n rest
+first_done core i s n number lane new_lane seat new_seat packet rest laid first seat_is packet_is lane_is new_is =
+    let number_is : n ≡ number = same_Some n number (sym (ap (λ ns. slice_get ns 0) laid) ∙ first) in
+    let rest_is : drop 1 lane.laid ≡ rest = ap (λ ns. drop 1 ns) laid in
+    rw (lane_is, new_is, packet_is, ← seat_is, ← number_is, rest_is) refl
+
+pub laid_first : (ns : List ℕ) (n : ℕ) → slice_get ns 0 ≡ Some n → ns ≡ n ∷ drop 1 ns
+laid_first [] n e = cc
+laid_first (m ∷ ns) n e = ap (λ k. k ∷ ns) (same_Some m n e)
+
+pub published_all : (old core : Core) (i count : ℕ) (lane : LaneState) (seat : SeatState) → PublishesRest old core i count count → slice_get old.lanes i ≡ Some lane → slice_get old.seats lane.tx_seat ≡ Some seat → has_laid lane ≡ true → publish old i ≡ Some core
+published_all old core i count lane seat rest at there has =
+    let none : length (laid_in (slice_get core.lanes i)) ≡ 0 = omega (arith, rest.left) in
+    let stays : next core (Publish i) ≡ core = go (slice_get core.lanes i) refl none in
+    let leads : publish old i ≡ Some (after_all old i lane seat lane.laid) = rw (at, there, has) refl in
+    let here : next old (Publish i) ≡ after_all old i lane seat lane.laid = ap (λ o. unwrap_or o old) leads in
+    leads ∙ ap Some (sym here ∙ sym rest.same ∙ stays) where
+      go : (o : Option LaneState) → slice_get core.lanes i ≡ o → length (laid_in o) ≡ 0 → next core (Publish i) ≡ core
+      go None is none = rw is refl
+      go (Some now) is none =
+          let empty : now.laid ≡ [] = no_numbers now.laid none in
+          seated (slice_get core.seats now.tx_seat) refl empty where
+            seated : (o : Option SeatState) → slice_get core.seats now.tx_seat ≡ o → now.laid ≡ [] → next core (Publish i) ≡ core
+            seated None e empty = rw (is, e) refl
+            seated (Some seat) e empty = rw (is, e, empty) refl

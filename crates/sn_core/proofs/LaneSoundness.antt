@@ -9,7 +9,7 @@ use Rattle.sn_core.specs.declared.events.Side.TheVariants.{Tx, Rx}
 use Rattle.sn_core.specs.declared.parts.Field.{Field}
 use Rattle.sn_core.specs.declared.parts.Field.TheVariants.{Absent, Up, Gone}
 use Rattle.sn_core.specs.declared.parts.Packet.{Packet}
-use Rattle.sn_core.specs.Lane.{LaneState, free_lane, is_up, is_absent, is_down, is_free, is_side, is_empty, unreleased, first_filled, next_emptied, most_laid, most_queued, most_unreleased, closed_by, has_next, can_attach, attached, can_detach, detached, can_reset, was_reset, can_take, taken, released, can_drain, can_lay, with_laid, has_laid, published, taken_back}
+use Rattle.sn_core.specs.Lane.{LaneState, free_lane, is_up, is_absent, is_down, is_free, is_side, is_empty, unreleased, first_filled, next_emptied, most_laid, most_queued, most_unreleased, closed_by, has_next, can_attach, attached, can_detach, detached, can_reset, was_reset, can_take, taken, released, can_drain, can_lay, with_laid, has_laid, published_some, published, taken_back}
 use Rattle.sn_core.specs.Sound.{LaidFits, QueueIsWhole, ClosesWhereDown, LaneIsSound}
 use Rattle.sn_core.proofs.Queues.{Filled, length_dropped, length_next, length_more, unreleased_next, filled_next, unreleased_dropped, unreleased_more, filled_more}
 
@@ -176,16 +176,16 @@ reset_sound side lane can sound =
     }
 
 -- the first packet leaves, to a receiver that is up or an end that closes
-taken_by : (lane : LaneState) → (is_up lane.rx || is_some lane.closes) ≡ true → has_next lane ≡ true → LaneIsSound lane → LaneIsSound (taken lane)
-taken_by lane may next sound =
-    let parts = and_parts (nat_lt (unreleased lane.queue) most_unreleased) (is_some (first_filled lane.queue)) next in
-    let room : unreleased lane.queue < most_unreleased = ltb-true (unreleased lane.queue) most_unreleased parts.0 in
+taken_by : (most : ℕ) (lane : LaneState) → most ≤ most_unreleased → (is_up lane.rx || is_some lane.closes) ≡ true → has_next most lane ≡ true → LaneIsSound lane → LaneIsSound (taken lane)
+taken_by most lane bound may next sound =
+    let parts = and_parts (nat_lt (unreleased lane.queue) most) (is_some (first_filled lane.queue)) next in
+    let room : unreleased lane.queue < most = ltb-true (unreleased lane.queue) most parts.0 in
     record {
       laid = record { few = sound.laid.few; up = sound.laid.up };
       queue = record {
         positions = omega (arith, sound.queue.positions, length_next lane.queue);
         room = omega (arith, sound.queue.room, length_next lane.queue);
-        few = omega (arith, room, unreleased_next lane.queue parts.1 sound.queue.filled);
+        few = omega (arith, room, bound, unreleased_next lane.queue parts.1 sound.queue.filled);
         filled = filled_next lane.queue sound.queue.filled;
         emptied = λ some. may;
       };
@@ -199,13 +199,13 @@ taken_by lane may next sound =
 
 pub taken_sound : (lane : LaneState) → can_take lane ≡ true → LaneIsSound lane → LaneIsSound (taken lane)
 taken_sound lane can sound =
-    let parts = and_parts (is_up lane.rx) (has_next lane) can in
-    taken_by lane (up_or_closed (is_up lane.rx) (is_some lane.closes) parts.0) parts.1 sound
+    let parts = and_parts (is_up lane.rx) (has_next most_unreleased lane) can in
+    taken_by most_unreleased lane (omega arith) (up_or_closed (is_up lane.rx) (is_some lane.closes) parts.0) parts.1 sound
 
 pub drained_sound : (side : Side) (lane : LaneState) → can_drain side lane ≡ true → LaneIsSound lane → LaneIsSound (taken lane)
 drained_sound side lane can sound =
-    let parts = and_parts (is_side side lane.closes) (has_next lane) can in
-    taken_by lane (closed_or_up (is_up lane.rx) (is_some lane.closes) (some_closer side lane.closes parts.0)) parts.1 sound
+    let parts = and_parts (is_side side lane.closes) (has_next 1 lane) can in
+    taken_by 1 lane (omega arith) (closed_or_up (is_up lane.rx) (is_some lane.closes) (some_closer side lane.closes parts.0)) parts.1 sound
 
 -- the emptied places are given back
 pub released_sound : (lane : LaneState) → LaneIsSound lane → LaneIsSound (released lane)
@@ -274,10 +274,6 @@ taken_back_sound lane sound =
     }
 
 -- packets that were laid join the queue, and the rest stays laid
-abbrev pub published_some : List Packet → List ℕ → LaneState → LaneState
-published_some packets rest lane =
-    record lane { queue = lane.queue ++ map Some packets; put = lane.put + length packets; laid = rest }
-
 pub published_some_sound : (packets : List Packet) (rest : List ℕ) (lane : LaneState) → 0 < length lane.laid → length packets + length rest ≡ length lane.laid → lane.put + length packets ≤ 2 ^ 62 → LaneIsSound lane → LaneIsSound (published_some packets rest lane)
 published_some_sound packets rest lane some count bound sound =
     let longer = length_more lane.queue packets in

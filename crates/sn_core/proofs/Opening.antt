@@ -11,7 +11,7 @@ use Rattle.sn_core.specs.Lane.{LaneState, free_lane, laid_count}
 use Rattle.sn_core.specs.Seat.{idle_seat, claim_count}
 use Rattle.sn_core.specs.Core.{Core, opened, opening_cell, pool, standing, IsPairOfSeats}
 use Rattle.sn_core.specs.Sound.{cell_count_in, is_busy, LaneIsSound, SeatIsSound}
-use Rattle.sn_core.specs.Kept.{GivesFresh, IsKept, JoinsSeats}
+use Rattle.sn_core.specs.Invariant.{GivesFresh, IsKept, JoinsSeats}
 use Rattle.sn_core.proofs.Weights.{weigh, weigh_is, weigh_of, cell_weight, lane_weight, seat_weight, cell_weight-full, free_lane_weight, idle_pool_weight, at-le-sum_by}
 use Rattle.sn_core.proofs.Counts.{is_one, count_is}
 use Rattle.sn_core.proofs.Balances.{too_high, not_too_high, all_bounded, length_is}

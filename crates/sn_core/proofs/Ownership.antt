@@ -13,7 +13,7 @@ use Rattle.sn_core.specs.declared.parts.Cell.TheVariants.{Empty, Busy, Full}
 use Rattle.sn_core.specs.Lane.{LaneState, free_lane}
 use Rattle.sn_core.specs.Seat.{SeatState, packets_from, held_packets, joined, turn_of, idle_seat}
 use Rattle.sn_core.specs.Core.{Core, pool, cell_packets, place_packets, queued_packets}
-use Rattle.sn_core.specs.Found.{found_at, owned_packets, cell_has, place_has, lane_has, seat_has}
+use Rattle.sn_core.specs.Ownership.{found_at, owned_packets, cell_has, place_has, lane_has, seat_has}
 use Rattle.sn_core.specs.Sound.{StandsOnce, count_of}
 use Rattle.sn_core.proofs.Weights.{weigh_is, cell_weight, lane_weight, seat_weight, cell_weight_of, lane_weight_of, seat_weight_of, cell_weight-full, cell_weight-empty, free_lane_weight, slot_weight_of, packets_from-cons, slot_weight, at-le-sum_by}
 use Rattle.sn_core.proofs.Counts.{is_one, is_one-at, none_if, count_is, counted_at_most_once, seat_weight-held, idle_weight}

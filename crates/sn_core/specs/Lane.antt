@@ -153,13 +153,13 @@ can_reset side lane = is_side side lane.closes && is_empty lane.queue && is_empt
 abbrev pub was_reset : LaneState → LaneState
 was_reset lane = record lane { tx = Absent; rx = Absent; closes = None }
 
--- a packet is there to take, and one more place may be emptied
-abbrev pub has_next : LaneState → Bool
-has_next lane = nat_lt (unreleased lane.queue) most_unreleased && is_some (first_filled lane.queue)
+-- a packet is there to take, and fewer than so many places are emptied
+abbrev pub has_next : ℕ → LaneState → Bool
+has_next most lane = nat_lt (unreleased lane.queue) most && is_some (first_filled lane.queue)
 
 -- the receiver, which is up, takes the first packet, and its place stays empty until it is released
 abbrev pub can_take : LaneState → Bool
-can_take lane = is_up lane.rx && has_next lane
+can_take lane = is_up lane.rx && has_next most_unreleased lane
 
 abbrev pub taken : LaneState → LaneState
 taken lane = record lane { queue = next_emptied lane.queue }
@@ -172,9 +172,9 @@ abbrev pub released : LaneState → LaneState
 released lane =
     record lane { queue = drop (unreleased lane.queue) lane.queue; read = lane.read + unreleased lane.queue }
 
--- the closing end takes and gives back in the same way
+-- the closing end takes and gives back in the same way, one packet after another
 abbrev pub can_drain : Side → LaneState → Bool
-can_drain side lane = is_side side lane.closes && has_next lane
+can_drain side lane = is_side side lane.closes && has_next 1 lane
 
 abbrev pub can_drain_release : Side → LaneState → Bool
 can_drain_release side lane = is_side side lane.closes && nat_lt 0 (unreleased lane.queue)
@@ -191,10 +191,13 @@ with_laid number lane = record lane { laid = lane.laid ++ number ∷ [] }
 abbrev pub has_laid : LaneState → Bool
 has_laid lane = not (is_empty lane.laid)
 
--- all that was laid joins the end of the queue, as these packets
+-- packets that were laid join the end of the queue, and the rest stays laid; or all of them join it
+abbrev pub published_some : List Packet → List ℕ → LaneState → LaneState
+published_some packets rest lane =
+    record lane { queue = lane.queue ++ map Some packets; put = lane.put + length packets; laid = rest }
+
 abbrev pub published : List Packet → LaneState → LaneState
-published packets lane =
-    record lane { queue = lane.queue ++ map Some packets; put = lane.put + length packets; laid = [] }
+published packets lane = published_some packets [] lane
 
 abbrev pub taken_back : LaneState → LaneState
 taken_back lane = record lane { laid = take (length lane.laid - 1) lane.laid }

@@ -7,7 +7,7 @@ use Rattle.sn_core.specs.declared.parts.Pending.{Pending}
 use Rattle.sn_core.specs.declared.parts.Phase.{Phase}
 use Rattle.sn_core.specs.declared.parts.Phase.TheVariants.{Taking, Giving, GivenIn}
 
--- the highest turn of a packet, 2^48 - 1: one at this turn is worn, and moves no more
+-- the highest turn of a packet, 2^48 - 1: a packet at this turn is worn, and moves no more
 abbrev pub highest_turn : ℕ
 highest_turn = 281474976710655
 
@@ -75,7 +75,7 @@ abbrev pub without_packets : List ℕ → SeatState → SeatState
 without_packets [] seat = seat
 without_packets (number ∷ numbers) seat = without_packets numbers (without_packet number seat)
 
--- the packet of this number as the seat hands it over: its turn is raised
+-- the packet of this number as the seat, which holds it, hands it over: its turn is raised
 abbrev pub handed_over : SeatState → ℕ → Packet
 handed_over seat number = record { number = number; turn = unwrap_or (turn_of number seat) 0 + 1 }
 

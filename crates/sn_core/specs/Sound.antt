@@ -42,7 +42,8 @@ pub record StandsOnce (core : Core) : Type 0 where
 
 -- 2. A laid packet stands in the transmitting seat's list, and no packet is laid twice, claimed twice, or laid and claimed.
 pub record LaidStands (core : Core) : Type 0 where
-  pub held : (i n : ℕ) (lane : LaneState) → slice_get core.lanes i ≡ Some lane → 0 < laid_count n lane → IsSome (turn_at core lane.tx_seat n)
+  pub held : (i n : ℕ) (lane : LaneState) → slice_get core.lanes i ≡ Some lane → 0 < laid_count n lane →
+      IsSome (turn_at core lane.tx_seat n)
   pub once : (n : ℕ) → laid_total core n + claim_total core n ≤ 1
 
 -- At most so many packets are laid at a lane, and its transmitter is up then.
@@ -61,8 +62,8 @@ pub record ClaimsStand (seat : SeatState) : Type 0 where
   pub few : length (claims_of seat) ≤ most_claimed
   pub held : (n : ℕ) → 0 < claim_count n seat → IsSome (turn_of n seat)
 
--- 4. The queue's length is put less read; with the laid packets it is at most 1023. Its first places are emptied, as many as takes
--- and drains are unreleased, and no others: then the receiver is up, or an end closes.
+-- 4. The queue's length is put less read; with the laid packets it is at most 1023. Its first places are emptied, as many as
+-- takes and drains are unreleased, and no others: then the receiver is up, or an end closes.
 pub record QueueIsWhole (lane : LaneState) : Type 0 where
   pub positions : lane.put ≡ lane.read + length lane.queue
   pub room : length lane.queue + length lane.laid ≤ most_queued

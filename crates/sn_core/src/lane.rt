@@ -1,10 +1,10 @@
-// One lane between two seats: its ends, its queue, and what is laid.
+//! One lane between two seats: its ends, its queue, and what is laid.
 ghost use Rattle.std.specs.Prelude.{◌≡◌, ◌-◌, ◌+◌, ◌<◌, ◌≤◌, ◌^◌, length, drop, slice_get, IfOk, IsTrue, IsSome, Some, None, Option, option_to_list, List, [], ◌∷◌};
 ghost use Rattle.std.specs.VecDeque.{deque_capacity};
 ghost use Rattle.sn_core.specs.declared.parts.Packet.{Packet};
-ghost use Rattle.sn_core.specs.Lane.{LaneState, most_laid, free_lane, seat_of, field_of, with_field, is_down, is_up, is_side, is_half_done, first_filled, unreleased, has_next, can_attach, attached, can_detach, detached, can_reset, was_reset, can_take, taken, can_release, released, can_drain, can_drain_release, can_lay, with_laid, lays, has_laid, published, taken_back};
+ghost use Rattle.sn_core.specs.Lane.{LaneState, most_laid, free_lane, seat_of, field_of, with_field, is_down, is_up, is_side, is_half_done, first_filled, unreleased, has_next, can_attach, attached, can_detach, detached, can_reset, was_reset, can_take, taken, can_release, released, can_drain, can_drain_release, can_lay, with_laid, lays, has_laid, published_some, taken_back};
 ghost use Rattle.sn_core.specs.Core.{has_end, is_in_use};
-ghost use Rattle.sn_core.specs.Found.{lane_has, place_has};
+ghost use Rattle.sn_core.specs.Ownership.{lane_has, place_has};
 ghost use Rattle.sn_core.specs.Sound.{QueueIsWhole};
 
 use crate::events::Side;
@@ -189,11 +189,11 @@ impl Lane {
         }
     }
 
-    /// Whether a packet is there to take, and one more place may be emptied.
-    fn has_next(&self) -> bool
-        ensures { result ≡ has_next self.now }
+    /// Whether a packet is there to take, and fewer than so many places are emptied.
+    fn has_next(&self, most: usize) -> bool
+        ensures { result ≡ has_next most self.now }
     {
-        self.emptied < MOST_UNRELEASED && self.first().is_some()
+        self.emptied < most && self.first().is_some()
     }
 
     /// Whether the packet of this number stands in the queue.
@@ -206,13 +206,13 @@ impl Lane {
     pub fn can_take(&self) -> bool
         ensures { result ≡ can_take self.now }
     {
-        self.rx == Field::Up && self.has_next()
+        self.rx == Field::Up && self.has_next(MOST_UNRELEASED)
     }
 
     pub fn can_drain(&self, side: Side) -> bool
         ensures { result ≡ can_drain side self.now }
     {
-        self.is_closed_by(side) && self.has_next()
+        self.is_closed_by(side) && self.has_next(1)
     }
 
     /// Empties the first filled place.
@@ -294,15 +294,23 @@ impl Lane {
         self.laid.first().copied()
     }
 
-    /// What was laid joins the queue as this packet.
-    pub fn publish(&mut self, packet: Packet)
+    /// How many packets are laid.
+    pub fn laid_len(&self) -> usize
+        ensures { result ≡ length self.now.laid }
+    {
+        self.laid.len()
+    }
+
+    /// The packet that was laid first joins the queue, and the rest stays laid.
+    pub fn publish_first(&mut self, packet: Packet)
         requires room { length self.old.queue < 1024 }
         requires put { self.old.put + 1 < 2 ^ 64 }
-        ensures { self.new ≡ published (packet ∷ []) self.old }
+        requires laid { 0 < length self.old.laid }
+        ensures { self.new ≡ published_some (packet ∷ []) (drop 1 self.old.laid) self.old }
     {
         self.queue.push_back_reserved(Some(packet));
         self.put += 1;
-        self.laid.clear();
+        let _ = self.laid.remove(0);
     }
 
     /// Whether an end of this lane is the seat's, and is up or closes.

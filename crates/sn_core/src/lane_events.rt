@@ -1,7 +1,9 @@
-// The events of lanes.
-ghost use Rattle.std.specs.Prelude.{◌≡◌, ◌<◌, ◌≤◌, length};
-ghost use Rattle.sn_core.specs.Core.{Core, IsStep, take_first};
-ghost use Rattle.sn_core.specs.Kept.{IsKept};
+//! The events of lanes.
+ghost use Rattle.std.specs.Prelude.{◌≡◌, ◌<◌, ◌≤◌, ℕ, List, [], ◌∷◌, Some, length, slice_get};
+ghost use Rattle.sn_core.specs.Core.{Core, IsStep, take_first, with_lane, with_seat};
+ghost use Rattle.sn_core.specs.Lane.{LaneState, published_some};
+ghost use Rattle.sn_core.specs.Seat.{SeatState, handed_over, without_packet};
+ghost use Rattle.sn_core.specs.Invariant.{IsKept};
 ghost use Rattle.sn_core.specs.State.{core_of};
 
 use crate::events::{Event, Side, Stepped};
@@ -134,16 +136,31 @@ impl Machine {
         ensures { IsStep (core_of self.old) (Event.Publish lane) result (core_of self.new) }
     {
         let i = lane as usize;
-        if i >= self.lanes.len() {
+        if i >= self.lanes.len() || !self.lanes[i].has_laid() {
             return Stepped::NotEnabled;
         }
-        let Some(number) = self.lanes[i].first_laid() else {
-            return Stepped::NotEnabled;
-        };
-        let seat = self.lanes[i].seat(Side::Tx) as usize;
-        let packet = self.seats[seat].handed_over(number);
-        self.lanes[i].publish(packet);
-        self.seats[seat].remove(number);
+        for _packet in 0..self.lanes[i].laid_len() {
+            self.publish_first(i);
+        }
         Stepped::Done
+    }
+
+    /// The packet that was laid first joins the queue, with its turn raised.
+    fn publish_first(&mut self, lane: usize)
+        requires kept { IsKept (core_of self.old) }
+        requires lane_in { lane < length (core_of self.old).lanes }
+        ensures { (state : LaneState) (seat : SeatState) (n : ℕ) (rest : List ℕ) →
+            slice_get (core_of self.old).lanes lane ≡ Some state →
+            slice_get (core_of self.old).seats state.tx_seat ≡ Some seat → state.laid ≡ n ∷ rest →
+            core_of self.new ≡ with_seat (with_lane (core_of self.old) lane
+            (published_some (handed_over seat n ∷ []) rest state)) state.tx_seat (without_packet n seat) }
+    {
+        let Some(number) = self.lanes[lane].first_laid() else {
+            return;
+        };
+        let seat = self.lanes[lane].seat(Side::Tx) as usize;
+        let packet = self.seats[seat].handed_over(number);
+        self.lanes[lane].publish_first(packet);
+        self.seats[seat].remove(number);
     }
 }

@@ -1,15 +1,15 @@
-// The pure core: every packet of the pool has one owner, after any list of events.
-//
-// - `events`: what may happen, what a step answers, and who owns a packet
-// - `parts`: packets, the fields of a lane, cells and pending transfers
-// - `lane`: one lane between two seats
-// - `seat`: one seat, with what it holds
-// - `machine`: cells, lanes and seats together
-// - `lane_events`, `cell_events`, `seat_events`: each event on the machine
-// - `steps`: one step of the machine, by its event
-// - `owners`: where a packet stands in the machine
-// - `state`: the core as callers see it
-// - `laws`: what each event keeps of one lane, for those who read a lane off a real ring
+//! The pure core: every packet of the pool has one owner, after any list of events.
+//!
+//! - `events`: what may happen, what a step answers, and who owns a packet
+//! - `parts`: packets, the fields of a lane, cells and pending transfers
+//! - `lane`: one lane between two seats
+//! - `seat`: one seat, with what it holds
+//! - `machine`: cells, lanes and seats together
+//! - `lane_events`, `cell_events`, `seat_events`: each event on the machine
+//! - `steps`: one step of the machine, by its event
+//! - `owners`: where a packet stands in the machine
+//! - `state`: the core as callers see it
+//! - `laws`: what each event keeps of one lane, for those who read a lane off a real ring
 #![tactic(auto)]
 
 mod cell_events;

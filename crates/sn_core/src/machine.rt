@@ -1,10 +1,10 @@
-// Cells, lanes and seats together, and what the events share.
+//! Cells, lanes and seats together, and what the events share.
 ghost use Rattle.std.specs.Prelude.{◌≡◌, ◌<◌, ◌≤◌, length, IfOk, IsTrue, is_some, Some, None, slice_get, Bool, true, map, replicate};
 ghost use Rattle.sn_core.specs.Core.{Core, opened, opening_cell, may_hand_over, take_first};
 ghost use Rattle.sn_core.specs.Seat.{SeatState, idle_seat, is_fresh, turn_of};
 ghost use Rattle.std.specs.List.{list_any, range_with_len};
 ghost use Rattle.sn_core.specs.Lane.{LaneState, first_filled, lays, free_lane};
-ghost use Rattle.sn_core.specs.Kept.{IsKept};
+ghost use Rattle.sn_core.specs.Invariant.{IsKept};
 ghost use Rattle.sn_core.specs.State.{core_of};
 
 use crate::events::Side;

@@ -1,8 +1,8 @@
-// The events of seats alone.
+//! The events of seats alone.
 ghost use Rattle.std.specs.Prelude.{◌≡◌, ◌<◌, ◌≤◌, length, Some, None};
 ghost use Rattle.sn_core.specs.Core.{Core, IsStep, is_in_use};
 ghost use Rattle.std.specs.List.{list_any};
-ghost use Rattle.sn_core.specs.Kept.{IsKept};
+ghost use Rattle.sn_core.specs.Invariant.{IsKept};
 ghost use Rattle.sn_core.specs.State.{core_of};
 
 use crate::events::{Event, Side, Stepped};

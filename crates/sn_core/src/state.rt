@@ -1,7 +1,7 @@
-// The core as callers see it: it opens, steps by events, and says who owns a packet.
+//! The core as callers see it: it opens, steps by events, and says who owns a packet.
 ghost use Rattle.std.specs.Prelude.{◌≡◌, ◌≢◌, ℕ, ◌<◌, ◌≤◌, length, IfOk, All, is_some, if◌then◌else◌};
 ghost use Rattle.sn_core.specs.Core.{Core, IsStep, opened, pool, all_after, done_count, after, next, IsPairOfSeats};
-ghost use Rattle.sn_core.specs.Found.{owned_packets};
+ghost use Rattle.sn_core.specs.Ownership.{owned_packets};
 ghost use Rattle.sn_core.specs.Sound.{IsSound, count_of};
 ghost use Rattle.sn_core.specs.declared.events.Owner.{Owner};
 
@@ -19,7 +19,7 @@ pub struct CoreState {
 impl Model for CoreState {
     ghost use Rattle.sn_core.specs.Core.{Core};
     ghost use Rattle.sn_core.specs.State.{core_of};
-    ghost use Rattle.sn_core.specs.Kept.{IsKept};
+    ghost use Rattle.sn_core.specs.Invariant.{IsKept};
 
     ghost Value = { Core };
 

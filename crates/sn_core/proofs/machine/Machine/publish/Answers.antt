@@ -1,47 +1,31 @@
-use Rattle.std.proofs.Common.{◌≡◌, ◌<◌, length, [], ◌∷◌, arith, sym, ap, ◌∙◌, subst, slice_get, Some, true}
-use Rattle.std.specs.Prelude.{unwrap_or}
-use Rattle.sn_core.specs.State.{core_of}
-use Rattle.sn_core.specs.Lane.{published}
-use Rattle.sn_core.specs.Seat.{turn_of, highest_turn, without_packet, handed_over, is_fresh}
-use Rattle.sn_core.proofs.Bounds.{end_in, held_in, laid_fresh, fresh_turn, first_laid, lane_at, one_laid}
-use Rattle.sn_core.proofs.Reservations.{fresh_some}
-use Rattle.sn_core.proofs.EventResults.{publish_done, read_is, read_at}
+use Rattle.std.proofs.Common.{◌≡◌, ◌<◌, length, arith, sym, ap, ◌∙◌, subst, true, get_or}
+use Rattle.std.proofs.lemmas.Option.{slice_get-get_or}
 use Rattle.sn_core.specs.declared.events.Side.TheVariants.{Tx}
+use Rattle.sn_core.specs.State.{core_of}
+use Rattle.sn_core.specs.Lane.{has_laid}
+use Rattle.sn_core.specs.Seat.{idle_seat}
+use Rattle.sn_core.proofs.Bounds.{end_in}
+use Rattle.sn_core.proofs.EventResults.{read_is, read_at}
+use Rattle.sn_core.proofs.LanePreservation.{PublishesRest, publishes_first, publishes_more, published_all}
 use Rattle.sn_core.proofs.machine.Machine.publish.Goals as goal
 
-pub handed_over-packet-requires : goal.handed_over-packet-requires
-handed_over-packet-requires c =
+pub loop-packet-init : goal.loop-packet-init
+loop-packet-init c =
     let core = core_of c.args.self.now in
-    let i = c.args.lane in
-    let lane = c.index.result.now in
-    let lane_in : i < length core.lanes = omega (arith, c.args.self.now.lanes.ok.0) in
-    let at = read_at core.lanes i lane lane_in c.index.ensures in
-    let seat_lane = read_is core.lanes i lane c.index-2.result.now at c.index-2.ensures in
-    let seat_is : c.seat-seat.result ≡ lane.tx_seat = subst (λ x. c.seat-seat.result ≡ x.tx_seat) seat_lane c.seat-seat.ensures in
-    let seat_in : c.seat-seat.result < length core.seats = omega (arith, seat_is, end_in core c.requires i lane Tx at) in
-    let there = read_at core.seats c.seat-seat.result c.index-3.result.now seat_in c.index-3.ensures in
-    let laid = one_laid core c.requires i lane c.in-Some.number at (sym c.first_laid.ensures ∙ c.in-Some.is) in
-    let there_tx = subst (λ s. slice_get core.seats s ≡ Some c.index-3.result.now) seat_is there in
-    fresh_turn (turn_of c.in-Some.number c.index-3.result.now)
-    (laid_fresh core c.requires i c.in-Some.number lane c.index-3.result.now at (first_laid lane c.in-Some.number [] laid) there_tx)
+    let lane_in : c.args.lane < length core.lanes = omega (arith, c.args.self.now.lanes.ok.0) in
+    let at = read_at core.lanes c.args.lane c.index-2.result.now lane_in c.index-2.ensures in
+    publishes_first core c.args.lane c.laid_len-packet-end.result c.requires c.index-2.result.now at c.laid_len-packet-end.ensures
 
-pub remove-requires : goal.remove-requires
-remove-requires c =
-    let core = core_of c.args.self.now in
-    let i = c.args.lane in
-    let lane = c.index.result.now in
-    let lane_in : i < length core.lanes = omega (arith, c.args.self.now.lanes.ok.0) in
-    let at = read_at core.lanes i lane lane_in c.index.ensures in
-    let seat = c.index-3.result.now in
-    let seat_lane = read_is core.lanes i lane c.index-2.result.now at c.index-2.ensures in
-    let seat_is : c.seat-seat.result ≡ lane.tx_seat = subst (λ x. c.seat-seat.result ≡ x.tx_seat) seat_lane c.seat-seat.ensures in
-    let seat_in : c.seat-seat.result < length core.seats = omega (arith, seat_is, end_in core c.requires i lane Tx at) in
-    let there = read_at core.seats c.seat-seat.result seat seat_in c.index-3.ensures in
-    let again = read_is core.seats c.seat-seat.result seat c.index_mut-2.result.now there c.index_mut-2.ensures.value in
-    let laid = one_laid core c.requires i lane c.in-Some.number at (sym c.first_laid.ensures ∙ c.in-Some.is) in
-    let there_tx = subst (λ s. slice_get core.seats s ≡ Some seat) seat_is there in
-    let fresh = laid_fresh core c.requires i c.in-Some.number lane seat at (first_laid lane c.in-Some.number [] laid) there_tx in
-    subst (λ x. c.in-Some.number < length x.held) (sym again) (held_in seat c.in-Some.number (fresh_some (turn_of c.in-Some.number seat) fresh))
+pub publish_first-requires-clause-kept : goal.publish_first-requires-clause-kept
+publish_first-requires-clause-kept c = c.loop-packet.invariant.kept
+
+pub publish_first-requires-clause-lane_in : goal.publish_first-requires-clause-lane_in
+publish_first-requires-clause-lane_in c = omega (arith, c.args.self.now.lanes.ok.0, c.loop-packet.invariant.lanes)
+
+pub loop-packet-preserved : goal.loop-packet-preserved
+loop-packet-preserved c =
+    publishes_more (core_of c.args.self.now) (core_of c.loop-packet.self) (core_of c.publish_first.new.self) c.args.lane c.laid_len-packet-end.result c.loop-packet._packet c.loop-packet.invariant
+    (omega (arith, c.args.self.now.lanes.ok.0, c.loop-packet.invariant.lanes)) c.loop-packet-test.true c.publish_first.ensures
 
 pub returns : goal.returns
 returns c =
@@ -50,14 +34,8 @@ returns c =
     let lane = c.index.result.now in
     let lane_in : i < length core.lanes = omega (arith, c.args.self.now.lanes.ok.0) in
     let at = read_at core.lanes i lane lane_in c.index.ensures in
-    let seat_lane = read_is core.lanes i lane c.index-2.result.now at c.index-2.ensures in
-    let mut_lane = read_is core.lanes i lane c.index_mut.result.now at c.index_mut.ensures.value in
-    let seat_is : c.seat-seat.result ≡ lane.tx_seat = subst (λ x. c.seat-seat.result ≡ x.tx_seat) seat_lane c.seat-seat.ensures in
-    let seat_in : c.seat-seat.result < length core.seats = omega (arith, seat_is, end_in core c.requires i lane Tx at) in
-    let seat = c.index-3.result.now in
-    let there = read_at core.seats c.seat-seat.result seat seat_in c.index-3.ensures in
-    let again = read_is core.seats c.seat-seat.result seat c.index_mut-2.result.now there c.index_mut-2.ensures.value in
-    publish_done core i c.seat-seat.result c.in-Some.number lane c.publish.new.self seat c.remove.new.self c.handed_over-packet.result at
-    (one_laid core c.requires i lane c.in-Some.number at (sym c.first_laid.ensures ∙ c.in-Some.is)) seat_is there c.handed_over-packet.ensures
-    (subst (λ x. c.publish.new.self ≡ published (c.handed_over-packet.result ∷ []) x) mut_lane c.publish.ensures)
-    (subst (λ x. c.remove.new.self ≡ without_packet c.in-Some.number x) again c.remove.ensures)
+    let there = slice_get-get_or core.seats lane.tx_seat (idle_seat 0) (end_in core c.requires i lane Tx at) in
+    let count = c.laid_len-packet-end.result in
+    let done : c.loop-packet._packet ≡ count = omega (arith, c.loop-packet-test.false, c.loop-packet.auto._packet-end) in
+    published_all core (core_of c.loop-packet.self) i count lane (get_or core.seats lane.tx_seat (idle_seat 0))
+    (subst (λ k. PublishesRest core (core_of c.loop-packet.self) i count k) done c.loop-packet.invariant) at there (sym c.has_laid.ensures ∙ c.if-not-has_laid.false)

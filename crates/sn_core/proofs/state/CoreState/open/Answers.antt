@@ -1,5 +1,5 @@
 use Rattle.std.proofs.Common.{sym, subst}
-use Rattle.sn_core.specs.Kept.{IsKept}
+use Rattle.sn_core.specs.Invariant.{IsKept}
 use Rattle.sn_core.proofs.Opening.{opened_kept}
 use Rattle.sn_core.proofs.state.CoreState.open.Goals as goal
 

@@ -1,6 +1,6 @@
 use Rattle.std.proofs.Common.{arith, sym, subst, ◌<◌}
 use Rattle.sn_core.specs.State.{core_of}
-use Rattle.sn_core.specs.Found.{owned_packets}
+use Rattle.sn_core.specs.Ownership.{owned_packets}
 use Rattle.sn_core.specs.Sound.{count_of}
 use Rattle.sn_core.proofs.Ownership.{one_owner}
 use Rattle.sn_core.proofs.state.CoreState.owner.Goals as goal

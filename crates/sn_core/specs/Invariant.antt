@@ -35,7 +35,8 @@ pub record GivesFresh (seat : SeatState) : Type 0 where
   pub fresh : (n : ℕ) → IsGiving seat.pending → 0 < claim_count n seat → IsTrue (is_fresh (turn_of n seat))
 
 pub record IsUnworn (core : Core) : Type 0 where
-  pub laid : (i n : ℕ) (lane : LaneState) → slice_get core.lanes i ≡ Some lane → 0 < laid_count n lane → IsTrue (is_fresh (turn_at core lane.tx_seat n))
+  pub laid : (i n : ℕ) (lane : LaneState) → slice_get core.lanes i ≡ Some lane → 0 < laid_count n lane →
+      IsTrue (is_fresh (turn_at core lane.tx_seat n))
   pub given : All GivesFresh core.seats
 
 pub record IsKept (core : Core) : Type 0 where
