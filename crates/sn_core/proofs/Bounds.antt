@@ -1,6 +1,6 @@
 -- What the machine's facts say of one lane or seat of it.
-use Rattle.std.proofs.Common.{◌≡◌, ℕ, ◌<◌, ◌≤◌, ◌^◌, Bool, true, false, is_some, Option, List, [], ◌∷◌, length, Some, None, IsSome, IsTrue, refl, sym, ap, ◌∙◌, subst, arith, slice_get, cond, eqb}
-use Rattle.std.proofs.lemmas.Option.{slice_get_within, same_Some}
+use Rattle.std.proofs.Common.{◌≡◌, ℕ, ◌<◌, ◌^◌, Bool, true, false, is_some, Option, List, [], ◌∷◌, length, Some, None, IsSome, refl, sym, ap, ◌∙◌, subst, arith, slice_get, cond, eqb}
+use Rattle.std.proofs.lemmas.Option.{slice_get_within}
 use Rattle.std.specs.Prelude.{unwrap_or}
 use Rattle.std.specs.List.{sum_by}
 use Rattle.std.proofs.lemmas.Bool.{ltb-true, eq-eqb, eqb-true}
@@ -14,8 +14,8 @@ use Rattle.sn_core.specs.declared.parts.Claim.{Claim}
 use Rattle.sn_core.specs.declared.parts.Phase.{Phase}
 use Rattle.sn_core.specs.declared.parts.Phase.TheVariants.{Taking, Giving, GivenIn}
 use Rattle.sn_core.specs.Lane.{LaneState, seat_of, first_filled, laid_count}
-use Rattle.sn_core.specs.Seat.{SeatState, Transfer, highest_turn, turn_of, is_fresh, claims_of, claims_in, claim_count, cell_count, pends, has_given, is_given_in}
-use Rattle.sn_core.specs.Core.{Core, pool, only}
+use Rattle.sn_core.specs.Seat.{SeatState, Transfer, highest_turn, turn_of, is_fresh, claims_of, claim_count, cell_count, has_pending, has_given, is_given_in}
+use Rattle.sn_core.specs.Core.{Core, pool}
 use Rattle.sn_core.specs.Sound.{LaneIsSound, SeatIsSound, turn_at, cell_count_in, is_busy}
 use Rattle.sn_core.specs.Invariant.{IsKept, JoinsSeats, Gives, IsGiving, GivesFresh}
 use Rattle.sn_core.proofs.Weights.{All_at, slot_from_turn}
@@ -118,7 +118,7 @@ first_laid lane n rest laid =
       sum_of : List ℕ → ℕ
       sum_of ns = sum_by (λ other. cond (eqb other n) 1 0) ns
 
-giving : (pending : Option Transfer) → pends (λ transfer. has_given transfer.phase) pending ≡ true → IsGiving pending
+giving : (pending : Option Transfer) → has_pending (λ transfer. has_given transfer.phase) pending ≡ true → IsGiving pending
 giving None e = cc
 giving (Some transfer) e = go transfer.phase e where
   go : (phase : Phase) → has_given phase ≡ true → Gives phase

@@ -1,17 +1,17 @@
 -- Each event on a cell or on a seat alone keeps the machine's facts.
-use Rattle.std.proofs.Common.{◌≡◌, ◌≢◌, ℕ, ◌+◌, ◌<◌, ◌≤◌, Bool, true, false, ◌&&◌, Option, List, [], ◌∷◌, ◌++◌, length, map, Some, None, is_some, is_none, IsSome, IsTrue, refl, sym, ap, ◌∙◌, subst, arith, slice_get, slice_set, append_assoc, cond, eqb, inl, inr, zero, suc}
-use Rattle.std.specs.Prelude.{unwrap_or, option_map}
+use Rattle.std.proofs.Common.{◌≡◌, ◌≢◌, ℕ, ◌+◌, ◌<◌, ◌≤◌, Bool, true, false, ◌&&◌, Option, List, [], ◌∷◌, ◌++◌, length, map, Some, None, is_none, IsSome, refl, sym, ap, ◌∙◌, subst, arith, slice_get, slice_set, append_assoc, cond, eqb, inl, inr}
+use Rattle.std.specs.Prelude.{unwrap_or}
 use Rattle.std.specs.List.{sum_by}
-use Rattle.std.proofs.lemmas.Bool.{and_parts, cases_eq, cases_lt, eq-eqb, ne_eqb, eqb-true, false≢true}
+use Rattle.std.proofs.lemmas.Bool.{and_parts, cases_eq, eq-eqb, ne_eqb, false≢true}
 use Rattle.std.proofs.lemmas.List.{length-set, length_push}
 use Rattle.std.proofs.lemmas.List.Sums.{sum_by-cons, sum_by-append}
-use Rattle.std.proofs.lemmas.Option.{none-some, same_Some, slice_get_past}
+use Rattle.std.proofs.lemmas.Option.{same_Some, slice_get_past}
 use Rattle.sn_core.specs.declared.parts.Packet.{Packet}
 use Rattle.sn_core.specs.declared.parts.Cell.{Cell}
 use Rattle.sn_core.specs.declared.parts.Cell.TheVariants.{Empty, Busy, Full}
 use Rattle.sn_core.specs.declared.parts.Claim.{Claim}
 use Rattle.sn_core.specs.declared.parts.Phase.{Phase}
-use Rattle.sn_core.specs.declared.parts.Phase.TheVariants.{Taking, Giving, GivenIn}
+use Rattle.sn_core.specs.declared.parts.Phase.TheVariants.{Taking, Giving}
 use Rattle.sn_core.specs.Seat.{SeatState, Transfer, most_claimed, turn_of, is_fresh, with_packet, with_packets, without_packet, handed_over, with_pending, claims_in, claims_of, claim_count, cell_count, is_given_in, joined}
 use Rattle.sn_core.specs.Core.{Core, pool, with_seat, with_cell, with_cells, written, is_empty_cell, full_packet, packets_of, paired, may_hand_over}
 use Rattle.sn_core.specs.Sound.{laid_total, claim_total, cell_count_in, is_busy, SeatIsSound, ClaimsAgree}
@@ -20,7 +20,7 @@ use Rattle.sn_core.proofs.Weights.{weigh-with_cell, weigh-with_seat, cell_weight
 use Rattle.sn_core.proofs.Counts.{not_held_in_cell}
 use Rattle.sn_core.proofs.Balances.{moves}
 use Rattle.sn_core.proofs.Writes.{get_same, get_other, write_twice, turn_of-with_packet, turn_of-without_packet, turn_of-held}
-use Rattle.sn_core.proofs.Reservations.{Reserved, fresh_some, reserved_seat, reserved_cell, agree_seat, agree_cell, unclaimed_total, laid_within, claim_within}
+use Rattle.sn_core.proofs.Reservations.{fresh_some, reserved_seat, reserved_cell, agree_seat, agree_cell, unclaimed_total, claim_within}
 use Rattle.sn_core.proofs.Bounds.{cell_packet_in, table_is, seat_at, given_at, claimed_busy, claimed_packet, given_fresh, fresh_turn, fresh_held}
 use Rattle.sn_core.proofs.LanePreservation.{may_hand_over_fresh, may_hand_over_unlaid}
 use Rattle.sn_core.proofs.EnabledEvents.{some_cases}

@@ -1,9 +1,8 @@
 -- What an event that was done found: each meaning taken apart.
-use Rattle.std.proofs.Common.{◌≡◌, ℕ, Bool, true, false, ◌&&◌, Option, List, [], ◌∷◌, map, Some, None, is_none, refl, ap, ◌∙◌, subst, slice_get}
+use Rattle.std.proofs.Common.{◌≡◌, ℕ, Bool, true, false, ◌&&◌, Option, List, [], ◌∷◌, map, Some, None, is_none, refl, subst, slice_get}
 use Rattle.std.specs.Prelude.{option_and_then, ◌==◌}
 use Rattle.std.specs.List.{list_all}
 use Rattle.std.proofs.lemmas.Bool.{and_parts}
-use Rattle.std.proofs.lemmas.Option.{same_Some}
 use Rattle.sn_core.specs.declared.events.Side.{Side}
 use Rattle.sn_core.specs.declared.parts.Packet.{Packet}
 use Rattle.sn_core.specs.declared.parts.Cell.{Cell}
@@ -12,7 +11,7 @@ use Rattle.sn_core.specs.declared.parts.Claim.{Claim}
 use Rattle.sn_core.specs.declared.parts.Phase.TheVariants.{Taking, Giving}
 use Rattle.sn_core.specs.Lane.{LaneState, seat_of, first_filled, taken, with_laid, has_laid, published}
 use Rattle.sn_core.specs.Seat.{SeatState, with_packet, with_packets, without_packet, without_packets, handed_over, with_pending, claims_of, is_all_out, is_given_in}
-use Rattle.sn_core.specs.Core.{Core, with_lane, with_seat, with_cell, with_cells, when, lane_step, seat_step, home, full_packet, packets_of, paired, only, is_empty_cell, may_hand_over, may_lay, take_first, lay, publish, take_claim, take_done, give_claim, give_done, restart}
+use Rattle.sn_core.specs.Core.{Core, with_lane, with_seat, with_cell, with_cells, when, lane_step, seat_step, home, packets_of, paired, only, is_empty_cell, may_hand_over, may_lay, take_first, lay, publish, take_claim, take_done, give_claim, give_done, restart}
 
 when_cases : {A : Type 0} (b : Bool) (x y : A) → when b x ≡ Some y → (P : A → Type 0) → (b ≡ true → P x) → P y
 when_cases true x y e P next = subst P (let same : x ≡ y = cc in same) (next refl)

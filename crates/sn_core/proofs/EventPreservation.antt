@@ -1,8 +1,7 @@
 -- Every event keeps the machine's facts.
-use Rattle.std.proofs.Common.{◌≡◌, ℕ, ◌<◌, ◌≤◌, Bool, true, ◌&&◌, Option, List, [], ◌∷◌, length, map, Some, None, IsSome, is_none, refl, sym, ap, ◌∙◌, subst, slice_get, arith, nat_le}
+use Rattle.std.proofs.Common.{◌≡◌, ℕ, ◌<◌, ◌≤◌, Bool, true, Option, List, [], ◌∷◌, length, map, Some, None, IsSome, refl, sym, ap, subst, slice_get, arith, nat_le}
 use Rattle.std.specs.Prelude.{option_map}
-use Rattle.std.specs.List.{list_all}
-use Rattle.std.proofs.lemmas.Bool.{and_parts, leb-true, not-true}
+use Rattle.std.proofs.lemmas.Bool.{leb-true, not-true}
 use Rattle.std.proofs.lemmas.Option.{same_Some}
 use Rattle.sn_core.specs.declared.events.Side.TheVariants.{Rx}
 use Rattle.sn_core.specs.declared.events.Event.{Event}
@@ -13,10 +12,9 @@ use Rattle.sn_core.specs.declared.parts.Claim.{Claim}
 use Rattle.sn_core.specs.declared.parts.Phase.{Phase}
 use Rattle.sn_core.specs.declared.parts.Phase.TheVariants.{Taking, Giving, GivenIn}
 use Rattle.sn_core.specs.Lane.{is_empty, can_attach, attached, can_detach, detached, can_reset, was_reset, can_take, can_release, released, can_drain, can_drain_release, has_laid, taken_back}
-use Rattle.sn_core.specs.Seat.{SeatState, Transfer, pends, takes, gives, in_phase, one_more_out, can_take_out, taken_out, is_all_out, can_give_in, given_in, with_pending, claims_in, claims_of}
-use Rattle.sn_core.specs.Core.{Core, after, home, only, take_done, with_seat, with_cells, IsStep}
+use Rattle.sn_core.specs.Seat.{SeatState, Transfer, has_pending, gives, in_phase, one_more_out, can_take_out, taken_out, can_give_in, given_in, with_pending, claims_in, claims_of}
+use Rattle.sn_core.specs.Core.{Core, after, only, with_seat, with_cells, IsStep}
 use Rattle.sn_core.specs.declared.parts.Cell.TheVariants.{Empty}
-use Rattle.sn_core.specs.Sound.{SeatIsSound}
 use Rattle.sn_core.specs.Invariant.{IsGiving, Gives, IsKept}
 use Rattle.sn_core.proofs.LaneSoundness.{taken_sound, drained_sound, something_in}
 use Rattle.sn_core.proofs.EnabledEvents.{lane_step_cases, seat_step_cases, take_first_cases, lay_cases, publish_cases, take_claim_cases, take_done_cases, give_claim_cases, give_done_cases, restart_cases}
@@ -41,7 +39,7 @@ still_taking (Some transfer) is = go transfer.phase is where
   go Giving is = is
   go GivenIn is = is
 
-still_giving : (pending : Option Transfer) → pends (λ transfer. gives transfer.phase) pending ≡ true → IsGiving pending
+still_giving : (pending : Option Transfer) → has_pending (λ transfer. gives transfer.phase) pending ≡ true → IsGiving pending
 still_giving None e = cc
 still_giving (Some transfer) e = go transfer.phase e where
   go : (phase : Phase) → gives phase ≡ true → Gives phase
@@ -50,7 +48,7 @@ still_giving (Some transfer) e = go transfer.phase e where
   go GivenIn e = tt
 
 -- the claims of a pending transfer, first one first
-keeps_done : (core : Core) (s : ℕ) → IsKept core → (seat : SeatState) → slice_get core.seats s ≡ Some seat → (test : Transfer → Bool) → pends test seat.pending ≡ true →
+keeps_done : (core : Core) (s : ℕ) → IsKept core → (seat : SeatState) → slice_get core.seats s ≡ Some seat → (test : Transfer → Bool) → has_pending test seat.pending ≡ true →
     IsKept (with_seat (with_cells core (map (λ claim. claim.cell) (claims_of seat)) Empty) s (with_pending None seat))
 keeps_done core s kept seat there test passes = go seat.pending refl passes where
   many : (transfer : Transfer) → seat.pending ≡ Some transfer → 0 < length transfer.claims
@@ -60,7 +58,7 @@ keeps_done core s kept seat there test passes = go seat.pending refl passes wher
   first phase [] some pending = absurd (omega (arith, some))
   first phase (claim ∷ rest) some pending = keeps_take_done rest claim core s phase kept seat there pending
 
-  go : (o : Option Transfer) → seat.pending ≡ o → pends test o ≡ true → IsKept (with_seat (with_cells core (map (λ claim. claim.cell) (claims_of seat)) Empty) s (with_pending None seat))
+  go : (o : Option Transfer) → seat.pending ≡ o → has_pending test o ≡ true → IsKept (with_seat (with_cells core (map (λ claim. claim.cell) (claims_of seat)) Empty) s (with_pending None seat))
   go None is e = cc
   go (Some transfer) is e =
       subst (λ o. IsKept (with_seat (with_cells core (map (λ claim. claim.cell) (claims_in o)) Empty) s (with_pending None seat))) (sym is)

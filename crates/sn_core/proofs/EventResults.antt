@@ -6,9 +6,9 @@ use Rattle.sn_core.specs.declared.parts.Packet.{Packet}
 use Rattle.sn_core.specs.declared.parts.Cell.TheVariants.{Empty, Busy, Full}
 use Rattle.sn_core.specs.declared.parts.Claim.{Claim}
 use Rattle.sn_core.specs.declared.parts.Phase.TheVariants.{Taking}
-use Rattle.sn_core.specs.Lane.{LaneState, seat_of, first_filled, taken, published}
+use Rattle.sn_core.specs.Lane.{LaneState, seat_of, first_filled, taken}
 use Rattle.sn_core.specs.Seat.{SeatState, with_packet, without_packet, handed_over, with_pending, claims_of, is_all_out, is_given_in}
-use Rattle.sn_core.specs.Core.{Core, take_first, take_claim, take_done, give_done, publish}
+use Rattle.sn_core.specs.Core.{Core, take_first, take_claim, take_done, give_done}
 
 -- an element that was read is the one that stands there
 pub read_is : {X : Type 0} (xs : List X) (i : ℕ) (x y : X) → slice_get xs i ≡ Some x → y ≡ get_or xs i y → y ≡ x

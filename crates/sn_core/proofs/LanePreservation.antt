@@ -1,8 +1,8 @@
 -- Each event on a lane keeps the machine's facts.
-use Rattle.std.proofs.Common.{◌≡◌, ℕ, ◌+◌, ◌-◌, ◌<◌, ◌≤◌, ◌^◌, Bool, true, false, not, ◌&&◌, Option, List, [], ◌∷◌, ◌++◌, length, take, drop, get_or, map, Some, None, is_some, refl, sym, ap, ◌∙◌, subst, arith, slice_get, slice_set, append_assoc, ◌≢◌, zero, suc, cond, eqb}
+use Rattle.std.proofs.Common.{◌≡◌, ℕ, ◌+◌, ◌-◌, ◌<◌, ◌≤◌, Bool, true, false, not, ◌&&◌, Option, List, [], ◌∷◌, ◌++◌, length, take, drop, get_or, map, Some, None, refl, sym, ap, ◌∙◌, subst, arith, slice_get, slice_set, append_assoc, ◌≢◌, zero, suc, cond, eqb}
 use Rattle.std.specs.Prelude.{unwrap_or}
 use Rattle.std.specs.List.{list_any, sum_by}
-use Rattle.std.proofs.lemmas.Bool.{and_parts, not-true, eq-eqb, ne_eqb, cases_eq}
+use Rattle.std.proofs.lemmas.Bool.{and_parts, not-true, eq-eqb}
 use Rattle.std.proofs.lemmas.Option.{same_Some, slice_get-get_or}
 use Rattle.std.proofs.lemmas.List.{length-set}
 use Rattle.std.proofs.lemmas.List.Sums.{sum_by-cons}
@@ -14,7 +14,7 @@ use Rattle.sn_core.specs.Lane.{LaneState, free_lane, seat_of, is_down, closed_by
 use Rattle.sn_core.specs.Seat.{SeatState, idle_seat, turn_of, with_packet, without_packet, without_packets, handed_over, is_fresh, has_claimed, claim_count}
 use Rattle.sn_core.specs.declared.events.Event.TheVariants.{Publish}
 use Rattle.sn_core.specs.Core.{Core, with_lane, with_seat, may_hand_over, may_lay, publish, next}
-use Rattle.sn_core.specs.Sound.{LaneIsSound, SeatIsSound, laid_total, claim_total}
+use Rattle.sn_core.specs.Sound.{LaneIsSound, laid_total, claim_total}
 use Rattle.sn_core.specs.Invariant.{IsKept}
 use Rattle.sn_core.proofs.Weights.{weigh-with_lane, weigh-with_seat, lane_weight-taken, lane_weight-released, lane_weight-published, seat_weight-with_packet, seat_weight-without_packet, same_lane_weight, sum_by-written}
 use Rattle.sn_core.proofs.Counts.{not_held_in_lane}

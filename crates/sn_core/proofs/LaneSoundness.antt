@@ -9,8 +9,8 @@ use Rattle.sn_core.specs.declared.events.Side.TheVariants.{Tx, Rx}
 use Rattle.sn_core.specs.declared.parts.Field.{Field}
 use Rattle.sn_core.specs.declared.parts.Field.TheVariants.{Absent, Up, Gone}
 use Rattle.sn_core.specs.declared.parts.Packet.{Packet}
-use Rattle.sn_core.specs.Lane.{LaneState, free_lane, is_up, is_absent, is_down, is_free, is_side, is_empty, unreleased, first_filled, next_emptied, most_laid, most_queued, most_unreleased, closed_by, has_next, can_attach, attached, can_detach, detached, can_reset, was_reset, can_take, taken, released, can_drain, can_lay, with_laid, has_laid, published_some, published, taken_back}
-use Rattle.sn_core.specs.Sound.{LaidFits, QueueIsWhole, ClosesWhereDown, LaneIsSound}
+use Rattle.sn_core.specs.Lane.{LaneState, free_lane, is_up, is_absent, is_down, is_side, is_empty, unreleased, first_filled, next_emptied, most_laid, most_queued, most_unreleased, closed_by, has_next, can_attach, attached, can_detach, detached, can_reset, was_reset, can_take, taken, released, can_drain, can_lay, with_laid, has_laid, published_some, published, taken_back}
+use Rattle.sn_core.specs.Sound.{QueueIsWhole, LaneIsSound}
 use Rattle.sn_core.proofs.Queues.{Filled, length_dropped, length_next, length_more, unreleased_next, filled_next, unreleased_dropped, unreleased_more, filled_more}
 
 -- tests on the fields

@@ -1,5 +1,5 @@
 -- The core as it opens has the machine's facts.
-use Rattle.std.proofs.Common.{◌≡◌, ◌≢◌, ℕ, ◌+◌, ◌*◌, ◌^◌, ◌<◌, ◌≤◌, Bool, false, Option, List, [], ◌∷◌, length, map, replicate, Some, None, refl, sym, ap, ◌∙◌, subst, arith, slice_get, zero, suc, inl, inr, cond, ◌⊎◌, ⊎_elim}
+use Rattle.std.proofs.Common.{◌≡◌, ◌≢◌, ℕ, ◌+◌, ◌*◌, ◌^◌, ◌<◌, ◌≤◌, Bool, false, List, [], ◌∷◌, length, map, replicate, Some, None, refl, sym, ap, ◌∙◌, subst, arith, slice_get, zero, suc, inl, inr, cond, ◌⊎◌, ⊎_elim}
 use Rattle.std.specs.List.{range_with_len, sum_by, All}
 use Rattle.std.proofs.lemmas.Bool.{eq-eqb, ne_eqb, cases_eq, false≢true}
 use Rattle.std.proofs.lemmas.List.{length-replicate, length-map}

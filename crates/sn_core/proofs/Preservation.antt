@@ -1,18 +1,18 @@
 -- The machine's facts from their parts, and what several events share.
-use Rattle.std.proofs.Common.{◌≡◌, ◌≢◌, ℕ, ◌+◌, ◌<◌, ◌≤◌, length, Some, None, IsSome, IsTrue, refl, sym, ap, ◌∙◌, subst, arith, slice_get}
+use Rattle.std.proofs.Common.{◌≡◌, ℕ, ◌<◌, ◌≤◌, length, Some, None, IsSome, IsTrue, refl, sym, ◌∙◌, subst, arith, slice_get}
 use Rattle.std.specs.List.{All}
 use Rattle.std.proofs.lemmas.List.{length-set}
 use Rattle.std.proofs.lemmas.List.Elements.{All-set}
 use Rattle.sn_core.specs.declared.parts.Packet.{Packet}
 use Rattle.sn_core.specs.declared.parts.Cell.{Cell}
 use Rattle.sn_core.specs.Lane.{LaneState, laid_count}
-use Rattle.sn_core.specs.Seat.{SeatState, Transfer, most_claimed, turn_of, is_fresh, claims_in, claim_count}
+use Rattle.sn_core.specs.Seat.{SeatState, most_claimed, turn_of, is_fresh, claims_in, claim_count}
 use Rattle.sn_core.specs.Core.{Core, pool, with_lane, with_seat, with_cell}
 use Rattle.sn_core.specs.Sound.{turn_at, laid_total, claim_total, LaneIsSound, SeatIsSound, ClaimsAgree}
 use Rattle.sn_core.specs.Invariant.{JoinsSeats, IsGiving, GivesFresh, IsKept}
 use Rattle.sn_core.proofs.Weights.{weigh-with_lane, lane_weight, All_at, sum_by-written}
 use Rattle.sn_core.proofs.Balances.{HandsOver, moves, put_of, stands_after, total_after, turns_after}
-use Rattle.sn_core.proofs.Reservations.{Reserved, fresh_some, reserved_lane, unclaimed_total, nobody_claims, nobody_lays}
+use Rattle.sn_core.proofs.Reservations.{Reserved, fresh_some, reserved_lane, nobody_claims, nobody_lays}
 use Rattle.sn_core.proofs.Bounds.{seat_at}
 
 pub reserved_of : (core : Core) → IsKept core → Reserved core

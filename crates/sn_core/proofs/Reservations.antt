@@ -1,12 +1,11 @@
 -- What is laid and what is claimed: how each change of a lane, a seat or a cell keeps those facts.
-use Rattle.std.proofs.Common.{◌≡◌, ◌≢◌, ℕ, ◌+◌, ◌<◌, ◌≤◌, Bool, true, false, Option, List, [], ◌∷◌, ◌++◌, Some, None, is_some, IsSome, IsTrue, refl, sym, ap, ◌∙◌, subst, arith, slice_get, slice_set, cond, eqb, inl, inr}
+use Rattle.std.proofs.Common.{◌≡◌, ◌≢◌, ℕ, ◌+◌, ◌<◌, ◌≤◌, Bool, true, false, Option, List, [], ◌∷◌, Some, None, is_some, IsSome, IsTrue, refl, sym, ap, ◌∙◌, subst, arith, slice_get, slice_set, cond, eqb, inl, inr}
 use Rattle.std.specs.Prelude.{option_and_then}
 use Rattle.std.specs.List.{list_any, sum_by, count_by}
-use Rattle.std.proofs.lemmas.Bool.{cases_eq, cases_lt, false≢true, or_parts, ne_eqb, eq-eqb}
+use Rattle.std.proofs.lemmas.Bool.{cases_eq, cases_lt, false≢true, or_parts, ne_eqb}
 use Rattle.std.proofs.lemmas.Option.{same_Some, none-some}
 use Rattle.std.proofs.lemmas.List.Sums.{sum_by-cons, sum_by-append}
 use Rattle.sn_core.specs.declared.parts.Cell.{Cell}
-use Rattle.sn_core.specs.declared.parts.Claim.{Claim}
 use Rattle.sn_core.specs.Lane.{LaneState, laid_count, lays, with_laid}
 use Rattle.sn_core.specs.Seat.{SeatState, turn_of, is_fresh, idle_seat, claims_of, claim_count, cell_count, has_claimed}
 use Rattle.sn_core.specs.Core.{Core, with_lane, with_seat, with_cell}

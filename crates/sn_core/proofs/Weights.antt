@@ -1,5 +1,5 @@
 -- The packets that stand in the core, weighed: the weight of all is that of the cells, the lanes and the seats.
-use Rattle.std.proofs.Common.{◌≡◌, ℕ, ◌+◌, ◌<◌, ◌≤◌, true, Option, List, [], ◌∷◌, ◌++◌, length, Some, None, refl, sym, ap, subst, arith, slice_get, slice_set, map, zero, suc, add-zero, zero-add, drop, get_or, replicate}
+use Rattle.std.proofs.Common.{◌≡◌, ℕ, ◌+◌, ◌<◌, ◌≤◌, Option, List, [], ◌∷◌, ◌++◌, length, Some, None, refl, sym, ap, subst, arith, slice_get, slice_set, map, zero, suc, add-zero, zero-add, drop, get_or, replicate}
 use Rattle.std.specs.List.{flat_map, sum_by, All}
 use Rattle.std.proofs.lemmas.List.Sums.{sum_by-cons, sum_by-append, sum_by-set, get_or-le-sum_by}
 use Rattle.std.proofs.lemmas.Option.{slice_get_within, get_or_from_slice_get, slice_get-get_or}

@@ -102,9 +102,9 @@ abbrev pub cell_count : ℕ → SeatState → ℕ
 cell_count cell seat = count_by (λ claim. claim.cell == cell) (claims_of seat)
 
 -- the seat has a transfer pending that passes the test
-abbrev pub pends : (Transfer → Bool) → Option Transfer → Bool
-pends test None = false
-pends test (Some transfer) = test transfer
+abbrev pub has_pending : (Transfer → Bool) → Option Transfer → Bool
+has_pending test None = false
+has_pending test (Some transfer) = test transfer
 
 -- how far a transfer has come
 abbrev pub takes : (ℕ → Bool) → Phase → Bool
@@ -138,21 +138,21 @@ one_more_out GivenIn = GivenIn
 
 -- of a taking, one more packet comes out of its cell
 abbrev pub can_take_out : SeatState → Bool
-can_take_out seat = pends (λ transfer. takes (λ out. nat_lt out (length transfer.claims)) transfer.phase) seat.pending
+can_take_out seat = has_pending (λ transfer. takes (λ out. nat_lt out (length transfer.claims)) transfer.phase) seat.pending
 
 abbrev pub taken_out : SeatState → SeatState
 taken_out seat = with_pending (option_map (λ transfer. in_phase (one_more_out transfer.phase) transfer) seat.pending) seat
 
 -- all packets of a taking are out
 abbrev pub is_all_out : SeatState → Bool
-is_all_out seat = pends (λ transfer. takes (λ out. out == length transfer.claims) transfer.phase) seat.pending
+is_all_out seat = has_pending (λ transfer. takes (λ out. out == length transfer.claims) transfer.phase) seat.pending
 
 -- the packet of a giving goes into its cell, and is in
 abbrev pub can_give_in : SeatState → Bool
-can_give_in seat = pends (λ transfer. gives transfer.phase) seat.pending
+can_give_in seat = has_pending (λ transfer. gives transfer.phase) seat.pending
 
 abbrev pub given_in : SeatState → SeatState
 given_in seat = with_pending (option_map (in_phase GivenIn) seat.pending) seat
 
 abbrev pub is_given_in : SeatState → Bool
-is_given_in seat = pends (λ transfer. has_given transfer.phase) seat.pending
+is_given_in seat = has_pending (λ transfer. has_given transfer.phase) seat.pending

@@ -1,4 +1,5 @@
 //! The events of cells.
+
 ghost use Rattle.std.specs.Prelude.{◌≡◌};
 ghost use Rattle.sn_core.specs.Core.{Core, IsStep};
 ghost use Rattle.sn_core.specs.Invariant.{IsKept};

@@ -1,4 +1,5 @@
 //! One lane between two seats: its ends, its queue, and what is laid.
+
 ghost use Rattle.std.specs.Prelude.{◌≡◌, ◌-◌, ◌+◌, ◌<◌, ◌≤◌, ◌^◌, length, drop, slice_get, IfOk, IsTrue, IsSome, Some, None, Option, option_to_list, List, [], ◌∷◌};
 ghost use Rattle.std.specs.VecDeque.{deque_capacity};
 ghost use Rattle.sn_core.specs.declared.parts.Packet.{Packet};

@@ -1,4 +1,5 @@
 //! The events of lanes.
+
 ghost use Rattle.std.specs.Prelude.{◌≡◌, ◌<◌, ◌≤◌, ℕ, List, [], ◌∷◌, Some, length, slice_get};
 ghost use Rattle.sn_core.specs.Core.{Core, IsStep, take_first, with_lane, with_seat};
 ghost use Rattle.sn_core.specs.Lane.{LaneState, published_some};

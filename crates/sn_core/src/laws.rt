@@ -1,5 +1,6 @@
 //! What holds of one lane at every moment, for those who read a lane off a real ring: laws as
 //! contracts of functions that do nothing.
+
 ghost use Rattle.std.specs.Prelude.{◌≡◌, ◌≤◌, ◌+◌, ◌^◌, ℕ, suc, IsTrue, IsSome, Option, List, All, length, drop, slice_get, ◌++◌};
 ghost use Rattle.sn_core.specs.declared.events.Side.{Side};
 ghost use Rattle.sn_core.specs.declared.parts.Packet.{Packet};

@@ -1,4 +1,5 @@
 //! Cells, lanes and seats together, and what the events share.
+
 ghost use Rattle.std.specs.Prelude.{◌≡◌, ◌<◌, ◌≤◌, length, IfOk, IsTrue, is_some, Some, None, slice_get, Bool, true, map, replicate};
 ghost use Rattle.sn_core.specs.Core.{Core, opened, opening_cell, may_hand_over, take_first};
 ghost use Rattle.sn_core.specs.Seat.{SeatState, idle_seat, is_fresh, turn_of};
@@ -97,22 +98,22 @@ fn full_cells(alloc: Global, pool: u32) -> Result<Vec<Cell>, AllocError>
 
 /// A free lane for each pair of a transmitting and a receiving seat.
 fn free_lanes(alloc: Global, lanes: &[(u32, u32)]) -> Result<Vec<Lane>, AllocError>
-    ensures { IfOk result (λ made. made.items ≡ map (λ ends. free_lane ends.0 ends.1) lanes.now) }
+    ensures { IfOk result (λ free. free.items ≡ map (λ ends. free_lane ends.0 ends.1) lanes.now) }
 {
-    let mut made = Vec::with_capacity(alloc, lanes.len())?;
+    let mut free = Vec::with_capacity(alloc, lanes.len())?;
     for ends in lanes {
-        made.push(Lane::new(alloc, ends.0, ends.1)?)?;
+        free.push(Lane::new(alloc, ends.0, ends.1)?)?;
     }
-    Ok(made)
+    Ok(free)
 }
 
 /// As many seats, which hold nothing of a pool of this size.
 fn idle_seats(alloc: Global, pool: u32, seats: u32) -> Result<Vec<Seat>, AllocError>
-    ensures { IfOk result (λ made. made.items ≡ replicate seats (idle_seat pool)) }
+    ensures { IfOk result (λ idle. idle.items ≡ replicate seats (idle_seat pool)) }
 {
-    let mut made = Vec::with_capacity(alloc, seats as usize)?;
+    let mut idle = Vec::with_capacity(alloc, seats as usize)?;
     for _seat in 0..seats {
-        made.push(Seat::new(alloc, pool)?)?;
+        idle.push(Seat::new(alloc, pool)?)?;
     }
-    Ok(made)
+    Ok(idle)
 }

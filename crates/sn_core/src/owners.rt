@@ -1,4 +1,5 @@
 //! Where a packet stands in the machine.
+
 ghost use Rattle.std.specs.Prelude.{◌≡◌, ◌<◌, position, is_some};
 ghost use Rattle.std.specs.List.{list_any};
 ghost use Rattle.sn_core.specs.declared.events.Owner.{Owner};

@@ -1,4 +1,5 @@
 //! What the core is made of: packets, the fields of a lane, cells and pending transfers.
+
 ghost use Rattle.std.specs.Prelude.{◌≡◌, true};
 ghost use Rattle.sn_core.specs.Seat.{takes, out_of};
 

@@ -1,4 +1,5 @@
 //! One seat: the packets that it holds, its pending transfer, and the numbers that it said and heard.
+
 ghost use Rattle.std.specs.Prelude.{◌≡◌, ◌<◌, ◌≤◌, length, IfOk, Some, None, is_none, IsTrue, unwrap_or, option_map, option_to_list, [], ◌∷◌};
 ghost use Rattle.sn_core.specs.Seat.{SeatState, highest_turn, idle_seat, turn_of, with_packet, without_packet, handed_over, with_pending, claims_of, has_claimed, can_take_out, taken_out, is_all_out, can_give_in, given_in, is_given_in, in_phase};
 ghost use Rattle.sn_core.specs.Ownership.{seat_has};

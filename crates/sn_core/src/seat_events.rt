@@ -1,4 +1,5 @@
 //! The events of seats alone.
+
 ghost use Rattle.std.specs.Prelude.{◌≡◌, ◌<◌, ◌≤◌, length, Some, None};
 ghost use Rattle.sn_core.specs.Core.{Core, IsStep, is_in_use};
 ghost use Rattle.std.specs.List.{list_any};

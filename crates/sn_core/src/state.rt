@@ -1,4 +1,5 @@
 //! The core as callers see it: it opens, steps by events, and says who owns a packet.
+
 ghost use Rattle.std.specs.Prelude.{◌≡◌, ◌≢◌, ℕ, ◌<◌, ◌≤◌, length, IfOk, All, is_some, if◌then◌else◌};
 ghost use Rattle.sn_core.specs.Core.{Core, IsStep, opened, pool, all_after, done_count, after, next, IsPairOfSeats};
 ghost use Rattle.sn_core.specs.Ownership.{owned_packets};
@@ -70,14 +71,14 @@ impl CoreState {
     {
         let mut done = 0;
         for event in events {
-            done += state.made(*event);
+            done += state.count_step(*event);
         }
         state.prove_sound();
         done
     }
 
     /// One step, with 1 where it was done.
-    fn made(&mut self, event: Event) -> u64
+    fn count_step(&mut self, event: Event) -> u64
         ensures state { self.new ≡ next self.old event }
         ensures count { result ≡ (if is_some (after self.old event) then 1 else 0) }
     {

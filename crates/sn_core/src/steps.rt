@@ -1,4 +1,5 @@
 //! One step of the machine, by its event.
+
 ghost use Rattle.sn_core.specs.Core.{IsStep};
 ghost use Rattle.sn_core.specs.Invariant.{IsKept};
 ghost use Rattle.sn_core.specs.State.{core_of};

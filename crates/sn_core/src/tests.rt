@@ -1,4 +1,5 @@
 //! What no clause says of the core by itself: worked cases, a table of all events, and a long run.
+
 use crate::{CoreState, Event, Owner, Side, Stepped};
 use std::alloc::AllocError;
 use std::test::Fail;

@@ -1,4 +1,4 @@
-use Rattle.std.proofs.Common.{◌≡◌, [], ◌∷◌, arith, sym, ap, ◌∙◌}
+use Rattle.std.proofs.Common.{[], ◌∷◌, arith, sym, ap, ◌∙◌}
 use Rattle.sn_core.specs.Lane.{unreleased}
 use Rattle.sn_core.proofs.Queues.{unreleased_more}
 use Rattle.sn_core.proofs.lane.Lane.publish_first.Goals as goal

@@ -1,4 +1,4 @@
-use Rattle.std.proofs.Common.{◌≡◌, drop, arith, sym, ap, ◌∙◌, subst}
+use Rattle.std.proofs.Common.{drop, arith, sym, ap, ◌∙◌, subst}
 use Rattle.std.specs.List.{All}
 use Rattle.sn_core.specs.Lane.{unreleased}
 use Rattle.sn_core.proofs.Queues.{Filled, unreleased_dropped}

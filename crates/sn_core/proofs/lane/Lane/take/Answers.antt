@@ -1,4 +1,4 @@
-use Rattle.std.proofs.Common.{◌≡◌, ◌<◌, length, drop, true, is_some, arith, sym, ap, ◌∙◌, subst}
+use Rattle.std.proofs.Common.{◌≡◌, drop, true, is_some, arith, sym, ap, ◌∙◌, subst}
 use Rattle.std.specs.List.{All}
 use Rattle.sn_core.specs.Lane.{LaneState, first_filled, unreleased, taken}
 use Rattle.sn_core.proofs.Queues.{Filled, first_within, next_read, unreleased_next}

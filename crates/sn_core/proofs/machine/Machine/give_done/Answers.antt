@@ -1,7 +1,7 @@
-use Rattle.std.proofs.Common.{◌≡◌, ◌<◌, length, Some, None, [], ◌∷◌, true, arith, sym, ap, ◌∙◌, subst}
+use Rattle.std.proofs.Common.{◌≡◌, ◌<◌, length, None, [], ◌∷◌, true, arith, sym, ap, ◌∙◌, subst}
 use Rattle.std.specs.Prelude.{option_to_list, unwrap_or}
 use Rattle.sn_core.specs.State.{core_of}
-use Rattle.sn_core.specs.Seat.{turn_of, highest_turn, with_pending, without_packet, handed_over, claims_of, is_given_in, is_fresh}
+use Rattle.sn_core.specs.Seat.{turn_of, highest_turn, with_pending, without_packet, handed_over, claims_of, is_given_in}
 use Rattle.sn_core.proofs.Bounds.{claimed_in, held_in, given_fresh, fresh_turn}
 use Rattle.sn_core.proofs.Reservations.{fresh_some}
 use Rattle.sn_core.proofs.EventResults.{give_done_done, read_is, read_at}

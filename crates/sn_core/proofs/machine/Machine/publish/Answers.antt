@@ -1,11 +1,10 @@
-use Rattle.std.proofs.Common.{◌≡◌, ◌<◌, length, arith, sym, ap, ◌∙◌, subst, true, get_or}
+use Rattle.std.proofs.Common.{◌≡◌, ◌<◌, length, arith, sym, ◌∙◌, subst, get_or}
 use Rattle.std.proofs.lemmas.Option.{slice_get-get_or}
 use Rattle.sn_core.specs.declared.events.Side.TheVariants.{Tx}
 use Rattle.sn_core.specs.State.{core_of}
-use Rattle.sn_core.specs.Lane.{has_laid}
 use Rattle.sn_core.specs.Seat.{idle_seat}
 use Rattle.sn_core.proofs.Bounds.{end_in}
-use Rattle.sn_core.proofs.EventResults.{read_is, read_at}
+use Rattle.sn_core.proofs.EventResults.{read_at}
 use Rattle.sn_core.proofs.LanePreservation.{PublishesRest, publishes_first, publishes_more, published_all}
 use Rattle.sn_core.proofs.machine.Machine.publish.Goals as goal
 

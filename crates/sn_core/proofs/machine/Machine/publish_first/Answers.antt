@@ -1,8 +1,7 @@
 use Rattle.std.proofs.Common.{◌≡◌, ◌<◌, length, drop, [], ◌∷◌, arith, sym, ap, ◌∙◌, subst, slice_get, Some}
-use Rattle.std.specs.Prelude.{unwrap_or}
 use Rattle.sn_core.specs.State.{core_of}
 use Rattle.sn_core.specs.Lane.{published_some}
-use Rattle.sn_core.specs.Seat.{turn_of, highest_turn, without_packet, handed_over}
+use Rattle.sn_core.specs.Seat.{turn_of, without_packet, handed_over}
 use Rattle.sn_core.proofs.Bounds.{end_in, held_in, laid_fresh, fresh_turn, first_laid}
 use Rattle.sn_core.proofs.Reservations.{fresh_some}
 use Rattle.sn_core.proofs.EventResults.{read_is, read_at}
