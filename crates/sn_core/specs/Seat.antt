@@ -1,5 +1,5 @@
 -- One seat: its state, and what events do to it.
-use Rattle.std.specs.Prelude.{ℕ, suc, ◌+◌, ◌==◌, Bool, true, false, Option, Some, None, unwrap_or, option_map, List, [], ◌∷◌, length, slice_get, slice_set, count_by, nat_lt, replicate}
+use Rattle.std.specs.Prelude.{ℕ, suc, ◌+◌, ◌-◌, ◌^◌, ◌==◌, Bool, true, false, Option, Some, None, unwrap_or, option_map, List, [], ◌∷◌, length, slice_get, slice_set, count_by, nat_lt, replicate}
 use Rattle.std.specs.List.{list_any}
 use Rattle.sn_core.specs.declared.parts.Packet.{Packet}
 use Rattle.sn_core.specs.declared.parts.Claim.{Claim}
@@ -9,7 +9,7 @@ use Rattle.sn_core.specs.declared.parts.Phase.TheVariants.{Taking, Giving, Given
 
 -- the highest turn of a packet, 2^48 - 1: a packet at this turn is worn, and moves no more
 abbrev pub highest_turn : ℕ
-highest_turn = 281474976710655
+highest_turn = 2 ^ 48 - 1
 
 -- the most cells of one transfer
 abbrev pub most_claimed : ℕ
