@@ -1,17 +1,18 @@
-pub mod HandOver
-pub mod Weights
-pub mod Standing
-pub mod KeptReads
-pub mod StepsDone
-pub mod HandOvers
-pub mod LaneChanges
-pub mod Writes
-pub mod Links
-pub mod Keeps
-pub mod StepCases
-pub mod KeepsLanes
-pub mod KeepsCells
-pub mod KeepsAll
-pub mod Runs
-pub mod Opened
-pub mod OneOwner
+mod Queues
+mod LaneSoundness
+mod Weights
+mod Counts
+mod Balances
+mod Writes
+mod Bounds
+mod Reservations
+mod EnabledEvents
+mod EventResults
+mod Preservation
+mod LanePreservation
+mod CellPreservation
+mod EventPreservation
+mod Runs
+mod Opening
+mod Ownership
+mod HandOverExample

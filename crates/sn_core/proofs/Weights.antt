@@ -1,5 +1,5 @@
 -- The packets that stand in the core, weighed: the weight of all is that of the cells, the lanes and the seats.
-use Rattle.std.proofs.Common.{◌≡◌, ℕ, ◌+◌, ◌<◌, ◌≤◌, true, Option, List, [], ◌∷◌, ◌++◌, length, Some, None, refl, sym, ap, subst, arith, slice_get, slice_set, map, zero, suc, add-zero, zero-add, drop, get_or, replicate}
+use Rattle.std.proofs.Common.{◌≡◌, ℕ, ◌+◌, ◌<◌, ◌≤◌, Option, List, [], ◌∷◌, ◌++◌, length, Some, None, refl, sym, ap, subst, arith, slice_get, slice_set, map, zero, suc, add-zero, zero-add, drop, get_or, replicate}
 use Rattle.std.specs.List.{flat_map, sum_by, All}
 use Rattle.std.proofs.lemmas.List.Sums.{sum_by-cons, sum_by-append, sum_by-set, get_or-le-sum_by}
 use Rattle.std.proofs.lemmas.Option.{slice_get_within, get_or_from_slice_get, slice_get-get_or}
@@ -7,8 +7,8 @@ use Rattle.std.proofs.lemmas.List.Concat.{flat_map-append}
 use Rattle.sn_core.specs.declared.parts.Packet.{Packet}
 use Rattle.sn_core.specs.declared.parts.Cell.{Cell}
 use Rattle.sn_core.specs.declared.parts.Cell.TheVariants.{Empty, Busy, Full}
-use Rattle.sn_core.specs.Lane.{LaneState, first_packet, with_first_emptied, is_unreleased, taken, published, released, free_lane}
-use Rattle.sn_core.specs.Seat.{SeatState, packets_from, held_packets, turn_of, joined, holding, letting_go, idle_seat}
+use Rattle.sn_core.specs.Lane.{LaneState, first_filled, next_emptied, unreleased, taken, published, released, free_lane}
+use Rattle.sn_core.specs.Seat.{SeatState, packets_from, held_packets, turn_of, joined, with_packet, without_packet, idle_seat}
 use Rattle.sn_core.specs.Core.{Core, standing, cell_packets, place_packets, queued_packets, with_lane, with_seat, with_cell}
 
 pub sum_by-flat_map : {X Y : Type 0} (f : Y → ℕ) (g : X → List Y) (xs : List X) → sum_by f (flat_map g xs) ≡ sum_by (λ x. sum_by f (g x)) xs
@@ -78,13 +78,13 @@ packets_from-written f number (x ∷ slots) (suc k) slot new at =
     let e : number + suc k ≡ suc number + k = omega arith in
     rw e (omega (arith, packets_from-cons f number x (slice_set slots k new), packets_from-cons f number x slots, packets_from-written f (suc number) slots k slot new at))
 
--- a lane: the first packet leaves, a packet joins, an emptied place goes
-pub lane_weight-taken : (f : Packet → ℕ) (lane : LaneState) (packet : Packet) → first_packet lane.queue ≡ Some packet → lane_weight f lane ≡ f packet + lane_weight f (taken lane)
+-- a lane: the first packet leaves, packets join, emptied places go
+pub lane_weight-taken : (f : Packet → ℕ) (lane : LaneState) (packet : Packet) → first_filled lane.queue ≡ Some packet → lane_weight f lane ≡ f packet + lane_weight f (taken lane)
 unfolding lane_weight
 lane_weight-taken f lane packet first = go lane.queue first where
-  go : (queue : List (Option Packet)) → first_packet queue ≡ Some packet → sum_by f (flat_map place_packets queue) ≡ f packet + sum_by f (flat_map place_packets (with_first_emptied queue))
+  go : (queue : List (Option Packet)) → first_filled queue ≡ Some packet → sum_by f (flat_map place_packets queue) ≡ f packet + sum_by f (flat_map place_packets (next_emptied queue))
   go [] first = cc
-  go (None ∷ queue) first = cc
+  go (None ∷ queue) first = go queue first
   go (Some other ∷ queue) first =
       let e : other ≡ packet = cc in
       subst (λ p. sum_by f (p ∷ flat_map place_packets queue) ≡ f packet + sum_by f (flat_map place_packets queue)) (sym e)
@@ -98,13 +98,13 @@ lane_weight-published f lane packets =
       all_filled [] = refl
       all_filled (p ∷ ps) = ap (λ qs. p ∷ qs) (all_filled ps)
 
-pub lane_weight-released : (f : Packet → ℕ) (lane : LaneState) → is_unreleased lane.queue ≡ true → lane_weight f (released lane) ≡ lane_weight f lane
+pub lane_weight-released : (f : Packet → ℕ) (lane : LaneState) → lane_weight f (released lane) ≡ lane_weight f lane
 unfolding lane_weight
-lane_weight-released f lane unreleased = go lane.queue unreleased where
-  go : (queue : List (Option Packet)) → is_unreleased queue ≡ true → sum_by f (flat_map place_packets (drop 1 queue)) ≡ sum_by f (flat_map place_packets queue)
-  go [] e = refl
-  go (None ∷ queue) e = refl
-  go (Some other ∷ queue) e = cc
+lane_weight-released f lane = go lane.queue where
+  go : (queue : List (Option Packet)) → sum_by f (flat_map place_packets (drop (unreleased queue) queue)) ≡ sum_by f (flat_map place_packets queue)
+  go [] = refl
+  go (None ∷ queue) = go queue
+  go (Some other ∷ queue) = refl
 
 -- a seat: a packet comes, a packet leaves
 pub slot_from_turn : (seat : SeatState) (number turn : ℕ) → turn_of number seat ≡ Some turn → slice_get seat.held number ≡ Some (Some turn)
@@ -119,14 +119,14 @@ empty_slot seat number lt e = go (slice_get seat.held number) (slice_get-get_or 
   go None is e = cc
   go (Some slot) is e = ap Some e
 
-pub seat_weight-holding : (f : Packet → ℕ) (seat : SeatState) (packet : Packet) → packet.number < length seat.held → turn_of packet.number seat ≡ None → seat_weight f (holding packet seat) ≡ seat_weight f seat + f packet
+pub seat_weight-with_packet : (f : Packet → ℕ) (seat : SeatState) (packet : Packet) → packet.number < length seat.held → turn_of packet.number seat ≡ None → seat_weight f (with_packet packet seat) ≡ seat_weight f seat + f packet
 unfolding seat_weight slot_weight
-seat_weight-holding f seat packet lt none =
+seat_weight-with_packet f seat packet lt none =
     omega (arith, simp zero-add at (packets_from-written f 0 seat.held packet.number None (Some packet.turn) (empty_slot seat packet.number lt none)))
 
-pub seat_weight-letting_go : (f : Packet → ℕ) (seat : SeatState) (number turn : ℕ) → turn_of number seat ≡ Some turn → seat_weight f (letting_go number seat) + f (record { number = number; turn = turn }) ≡ seat_weight f seat
+pub seat_weight-without_packet : (f : Packet → ℕ) (seat : SeatState) (number turn : ℕ) → turn_of number seat ≡ Some turn → seat_weight f (without_packet number seat) + f (record { number = number; turn = turn }) ≡ seat_weight f seat
 unfolding seat_weight slot_weight
-seat_weight-letting_go f seat number turn held =
+seat_weight-without_packet f seat number turn held =
     omega (arith, simp zero-add at (packets_from-written f 0 seat.held number (Some turn) None (slot_from_turn seat number turn held)))
 
 -- the core with another lane, seat or cell

@@ -1,6 +1,6 @@
 -- The core: its state, the state after each event, and after a list of events.
 use Rattle.std.specs.Prelude.{◌≡◌, ◌≢◌, ◌<◌, ℕ, ◌+◌, Bool, true, false, not, ◌&&◌, ◌||◌, ◌==◌, option_map, replicate, if◌then◌else◌, Option, Some, None, is_some, is_none, unwrap_or, option_and_then, List, [], ◌∷◌, ◌++◌, map, length, slice_get, slice_set, nat_le}
-use Rattle.std.specs.List.{flat_map, list_any, range_with_len}
+use Rattle.std.specs.List.{flat_map, list_any, list_all, range_with_len}
 use Rattle.sn_core.specs.declared.events.Side.{Side}
 use Rattle.sn_core.specs.declared.events.Side.TheVariants.{Tx, Rx}
 use Rattle.sn_core.specs.declared.events.Event.{Event}
@@ -10,11 +10,10 @@ use Rattle.sn_core.specs.declared.events.Stepped.TheVariants.{Done, NotEnabled}
 use Rattle.sn_core.specs.declared.parts.Packet.{Packet}
 use Rattle.sn_core.specs.declared.parts.Cell.{Cell}
 use Rattle.sn_core.specs.declared.parts.Cell.TheVariants.{Empty, Busy, Full}
-use Rattle.sn_core.specs.declared.parts.Phase.{Phase}
-use Rattle.sn_core.specs.declared.parts.Phase.TheVariants.{Taking, TakenOut, Giving, GivenIn}
-use Rattle.sn_core.specs.declared.parts.Transfer.{Transfer}
-use Rattle.sn_core.specs.Lane.{LaneState, free_lane, seat_of, is_up, field_of, is_side, first_packet, can_attach, attached, can_detach, detached, can_reset, was_reset, can_take, taken, can_release, released, can_drain, can_drain_release, can_lay, with_laid, published}
-use Rattle.sn_core.specs.Seat.{SeatState, idle_seat, held_packets, turn_of, holding, letting_go, with_pending, is_fresh}
+use Rattle.sn_core.specs.declared.parts.Claim.{Claim}
+use Rattle.sn_core.specs.declared.parts.Phase.TheVariants.{Taking, Giving}
+use Rattle.sn_core.specs.Lane.{LaneState, free_lane, seat_of, is_up, field_of, is_side, first_filled, can_attach, attached, can_detach, detached, can_reset, was_reset, can_take, taken, can_release, released, can_drain, can_drain_release, can_lay, lays, with_laid, has_laid, published, taken_back}
+use Rattle.sn_core.specs.Seat.{SeatState, idle_seat, held_packets, turn_of, is_fresh, with_packet, with_packets, without_packet, without_packets, handed_over, with_pending, claims_of, has_claimed, can_take_out, taken_out, is_all_out, can_give_in, given_in, is_given_in}
 
 -- the state of the whole core: the cells of the freelist, the lanes and the seats
 pub record Core : Type 0 where
@@ -56,6 +55,14 @@ with_seat core s seat = record { cells = core.cells; lanes = core.lanes; seats =
 abbrev pub with_cell : Core → ℕ → Cell → Core
 with_cell core c cell = record { cells = slice_set core.cells c cell; lanes = core.lanes; seats = core.seats }
 
+-- the core with all of these cells so
+abbrev pub written : List Cell → List ℕ → Cell → List Cell
+written cells [] cell = cells
+written cells (c ∷ cs) cell = written (slice_set cells c cell) cs cell
+
+abbrev pub with_cells : Core → List ℕ → Cell → Core
+with_cells core cs cell = record { cells = written core.cells cs cell; lanes = core.lanes; seats = core.seats }
+
 -- what is read must be there, and the condition must hold
 infixl 10 ◌>>=◌
 abbrev pub ◌>>=◌ : {A B : Type 0} → Option A → (A → Option B) → Option B
@@ -77,29 +84,13 @@ seat_step core s test change = do
   seat ← slice_get core.seats s
   when (test seat) (with_seat core s (change seat))
 
--- the lane has this packet laid
-abbrev pub is_number : ℕ → Option ℕ → Bool
-is_number number None = false
-is_number number (Some other) = other == number
-
-abbrev pub lays : ℕ → LaneState → Bool
-lays number lane = is_number number lane.laid
-
--- the seat has this packet under a claim
-abbrev pub is_of_packet : ℕ → Option Transfer → Bool
-is_of_packet number None = false
-is_of_packet number (Some transfer) = transfer.packet == number
-
-abbrev pub claims : ℕ → SeatState → Bool
-claims number seat = is_of_packet number seat.pending
-
 -- the seat holds the packet, which isn't worn, and no lane has it laid
-abbrev pub may_go : Core → ℕ → SeatState → Bool
-may_go core number seat = is_fresh (turn_of number seat) && not (list_any (lays number) core.lanes)
+abbrev pub may_hand_over : Core → ℕ → SeatState → Bool
+may_hand_over core number seat = is_fresh (turn_of number seat) && not (list_any (lays number) core.lanes)
 
 -- it may lay the packet at this lane: there is room, and the packet is under no claim
 abbrev pub may_lay : Core → ℕ → LaneState → SeatState → Bool
-may_lay core number lane seat = can_lay lane && may_go core number seat && not (claims number seat)
+may_lay core number lane seat = can_lay lane && may_hand_over core number seat && not (has_claimed number seat)
 
 -- this end of the lane is the seat's, and is up or closes
 abbrev pub has_end : ℕ → Side → LaneState → Bool
@@ -120,81 +111,85 @@ is_empty_cell Empty = true
 is_empty_cell (Busy seat) = false
 is_empty_cell (Full packet) = false
 
--- the transfer has come to this phase
-abbrev pub is_phase : Phase → Phase → Bool
-is_phase Taking Taking = true
-is_phase TakenOut TakenOut = true
-is_phase Giving Giving = true
-is_phase GivenIn GivenIn = true
-is_phase _ _ = false
+-- the freelist that the cell, the packet or the seat of this number belongs to: one serves all so far
+abbrev pub home : Core → ℕ → ℕ
+home core number = 0
 
--- the packet of this number and turn after it was handed over
-abbrev pub handed_over : ℕ → ℕ → Packet
-handed_over number turn = record { number = number; turn = turn + 1 }
+-- the packets of these cells, if each is full
+abbrev pub packets_of : List Cell → List ℕ → Option (List Packet)
+packets_of cells [] = Some []
+packets_of cells (c ∷ cs) = do
+  cell ← slice_get cells c
+  packet ← full_packet cell
+  packets ← packets_of cells cs
+  Some (packet ∷ packets)
 
--- the packet in the first place of the lane's queue moves to the seat of that end
+-- each of these cells with its packet
+abbrev pub paired : List ℕ → List Packet → List Claim
+paired [] packets = []
+paired (c ∷ cs) [] = []
+paired (c ∷ cs) (packet ∷ packets) = record { cell = c; packet = packet.number } ∷ paired cs packets
+
+-- the packet in the first filled place of the lane's queue moves to the seat of that end
 abbrev pub take_first : Core → ℕ → Side → (LaneState → Bool) → Option Core
 take_first core i side test = do
   lane ← slice_get core.lanes i
-  packet ← first_packet lane.queue
+  packet ← first_filled lane.queue
   seat ← slice_get core.seats (seat_of side lane)
-  when (test lane) (with_seat (with_lane core i (taken lane)) (seat_of side lane) (holding packet seat))
+  when (test lane) (with_seat (with_lane core i (taken lane)) (seat_of side lane) (with_packet packet seat))
 
 -- a packet of the transmitting seat is laid, and stays in its list
 abbrev pub lay : Core → ℕ → ℕ → Option Core
 lay core i number = do
   lane ← slice_get core.lanes i
   seat ← slice_get core.seats lane.tx_seat
-  when (may_lay core number lane seat) (with_lane core i (with_laid (Some number) lane))
+  when (may_lay core number lane seat) (with_lane core i (with_laid number lane))
 
--- the laid packet moves from the seat to the end of the queue
+-- all laid packets move from the seat to the end of the queue, handed over
 abbrev pub publish : Core → ℕ → Option Core
 publish core i = do
   lane ← slice_get core.lanes i
-  number ← lane.laid
   seat ← slice_get core.seats lane.tx_seat
-  turn ← turn_of number seat
-  Some (with_seat (with_lane core i (published (handed_over number turn ∷ []) lane)) lane.tx_seat (letting_go number seat))
+  when (has_laid lane) (with_seat (with_lane core i (published (map (handed_over seat) lane.laid) lane)) lane.tx_seat
+      (without_packets lane.laid seat))
 
--- the packet of a full cell moves to the seat, which has the cell claimed then
-abbrev pub take_claim : Core → ℕ → ℕ → Option Core
-take_claim core s c = do
+-- the packets of these full cells, all of the seat's home, move to the seat, which has the cells claimed then
+abbrev pub take_claim : Core → ℕ → List ℕ → Option Core
+take_claim core s cs = do
   seat ← slice_get core.seats s
-  cell ← slice_get core.cells c
-  packet ← full_packet cell
-  when (is_none seat.pending) (with_seat (with_cell core c (Busy s)) s
-      (with_pending (Some (record { phase = Taking; cell = c; packet = packet.number })) (holding packet seat)))
+  packets ← packets_of core.cells cs
+  when (list_all (λ c. home core c == home core s) cs && is_none seat.pending) (with_seat (with_cells core cs (Busy s)) s
+      (with_pending (Some (record { phase = Taking 0; claims = paired cs packets })) (with_packets packets seat)))
 
--- the transfer goes on from the one phase to the other
-abbrev pub go_on : Core → ℕ → Phase → Phase → Option Core
-go_on core s from to = do
-  seat ← slice_get core.seats s
-  transfer ← seat.pending
-  when (is_phase from transfer.phase) (with_seat core s (with_pending (Some (record transfer { phase = to })) seat))
-
--- the cell is empty, and the transfer done
+-- the cells of the taking are empty, and it is done
 abbrev pub take_done : Core → ℕ → Option Core
 take_done core s = do
   seat ← slice_get core.seats s
-  transfer ← seat.pending
-  when (is_phase TakenOut transfer.phase) (with_seat (with_cell core transfer.cell Empty) s (with_pending None seat))
+  when (is_all_out seat) (with_seat (with_cells core (map (λ claim. claim.cell) (claims_of seat)) Empty) s
+      (with_pending None seat))
 
--- an empty cell is claimed for a packet that the seat holds
+-- an empty cell, of the packet's home, is claimed for a packet that the seat holds
 abbrev pub give_claim : Core → ℕ → ℕ → ℕ → Option Core
 give_claim core s c number = do
   seat ← slice_get core.seats s
   cell ← slice_get core.cells c
-  when (is_empty_cell cell && is_none seat.pending && may_go core number seat) (with_seat (with_cell core c (Busy s)) s
-      (with_pending (Some (record { phase = Giving; cell = c; packet = number })) seat))
+  when ((home core c == home core number) && (is_empty_cell cell && is_none seat.pending && may_hand_over core number seat))
+      (with_seat (with_cell core c (Busy s)) s
+      (with_pending (Some (record { phase = Giving; claims = record { cell = c; packet = number } ∷ [] })) seat))
 
--- the packet of the transfer moves from the seat to the cell
+-- a giving has one claim
+abbrev pub only : List Claim → Option Claim
+only [] = None
+only (claim ∷ []) = Some claim
+only (claim ∷ other ∷ others) = None
+
+-- the packet of the giving moves from the seat to the cell, handed over
 abbrev pub give_done : Core → ℕ → Option Core
 give_done core s = do
   seat ← slice_get core.seats s
-  transfer ← seat.pending
-  turn ← turn_of transfer.packet seat
-  when (is_phase GivenIn transfer.phase) (with_seat (with_cell core transfer.cell (Full (handed_over transfer.packet turn))) s
-      (with_pending None (letting_go transfer.packet seat)))
+  claim ← only (claims_of seat)
+  when (is_given_in seat) (with_seat (with_cell core claim.cell (Full (handed_over seat claim.packet))) s
+      (with_pending None (without_packet claim.packet seat)))
 
 -- a seat may begin again where it has no end in use and nothing pending; nothing moves
 abbrev pub restart : Core → ℕ → Option Core
@@ -212,14 +207,14 @@ after core (Take lane) = take_first core lane Rx can_take
 after core (Release lane) = lane_step core lane can_release released
 after core (Lay lane packet) = lay core lane packet
 after core (Publish lane) = publish core lane
-after core (TakeBack lane) = lane_step core lane (λ state. is_some state.laid) (with_laid None)
+after core (TakeBack lane) = lane_step core lane has_laid taken_back
 after core (DrainTake lane side) = take_first core lane side (can_drain side)
 after core (DrainRelease lane side) = lane_step core lane (can_drain_release side) released
-after core (TakeClaim seat cell) = take_claim core seat cell
-after core (TakeOut seat) = go_on core seat Taking TakenOut
+after core (TakeClaim seat cell) = take_claim core seat (cell ∷ [])
+after core (TakeOut seat) = seat_step core seat can_take_out taken_out
 after core (TakeDone seat) = take_done core seat
 after core (GiveClaim seat cell packet) = give_claim core seat cell packet
-after core (GiveIn seat) = go_on core seat Giving GivenIn
+after core (GiveIn seat) = seat_step core seat can_give_in given_in
 after core (GiveDone seat) = give_done core seat
 after core (Say worker n) = seat_step core worker (λ seat. nat_le seat.said n) (λ seat. record seat { said = n })
 after core (Hear worker) = seat_step core worker (λ seat. true) (λ seat. record seat { heard = seat.said })

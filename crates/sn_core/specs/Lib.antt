@@ -1,7 +1,7 @@
 pub mod Lane
 pub mod Seat
 pub mod Core
-pub mod Found
+pub mod Ownership
 pub mod Sound
-pub mod Kept
+pub mod Invariant
 pub mod State

@@ -1,12 +1,13 @@
-// The events of cells.
+//! The events of cells.
+
 ghost use Rattle.std.specs.Prelude.{◌≡◌};
 ghost use Rattle.sn_core.specs.Core.{Core, IsStep};
-ghost use Rattle.sn_core.specs.Kept.{IsKept};
+ghost use Rattle.sn_core.specs.Invariant.{IsKept};
 ghost use Rattle.sn_core.specs.State.{core_of};
 
 use crate::events::{Event, Stepped};
 use crate::machine::Machine;
-use crate::parts::{Cell, Packet, Phase, Transfer};
+use crate::parts::Cell;
 
 impl Machine {
     /// A seat claims a full cell, and its packet with it.
@@ -23,7 +24,7 @@ impl Machine {
             return Stepped::NotEnabled;
         };
         self.cells[c] = Cell::Busy(seat);
-        self.seats[s].claim(packet, cell);
+        self.seats[s].begin_taking(packet, cell);
         Stepped::Done
     }
 
@@ -33,17 +34,14 @@ impl Machine {
         ensures { IsStep (core_of self.old) (Event.TakeDone seat) result (core_of self.new) }
     {
         let s = seat as usize;
-        if s >= self.seats.len() {
+        if s >= self.seats.len() || !self.seats[s].is_all_out() {
             return Stepped::NotEnabled;
         }
-        let Some(transfer) = self.seats[s].pending() else {
-            return Stepped::NotEnabled;
+        let Some(claim) = self.seats[s].claim() else {
+            unreachable!();
         };
-        if !transfer.is_in(Phase::TakenOut) {
-            return Stepped::NotEnabled;
-        }
-        self.cells[transfer.cell as usize] = Cell::Empty;
-        self.seats[s].set_pending(None);
+        self.cells[claim.cell as usize] = Cell::Empty;
+        self.seats[s].end_taking();
         Stepped::Done
     }
 
@@ -57,16 +55,12 @@ impl Machine {
         }
         if self.cells[cell as usize] != Cell::Empty
             || !self.seats[s].is_idle()
-            || !self.may_go(packet, s)
+            || !self.may_hand_over(packet, s)
         {
             return Stepped::NotEnabled;
         }
         self.cells[cell as usize] = Cell::Busy(seat);
-        self.seats[s].set_pending(Some(Transfer {
-            phase: Phase::Giving,
-            cell,
-            packet,
-        }));
+        self.seats[s].begin_giving(packet, cell);
         Stepped::Done
     }
 
@@ -76,23 +70,15 @@ impl Machine {
         ensures { IsStep (core_of self.old) (Event.GiveDone seat) result (core_of self.new) }
     {
         let s = seat as usize;
-        if s >= self.seats.len() {
+        if s >= self.seats.len() || !self.seats[s].is_given_in() {
             return Stepped::NotEnabled;
         }
-        let Some(transfer) = self.seats[s].pending() else {
+        let Some(claim) = self.seats[s].claim() else {
             return Stepped::NotEnabled;
         };
-        if !transfer.is_in(Phase::GivenIn) {
-            return Stepped::NotEnabled;
-        }
-        let Some(turn) = self.seats[s].turn(transfer.packet) else {
-            return Stepped::NotEnabled;
-        };
-        self.cells[transfer.cell as usize] = Cell::Full(Packet {
-            number: transfer.packet,
-            turn: turn + 1,
-        });
-        self.seats[s].hand_over(transfer.packet);
+        let packet = self.seats[s].handed_over(claim.packet);
+        self.cells[claim.cell as usize] = Cell::Full(packet);
+        self.seats[s].end_giving(claim.packet);
         Stepped::Done
     }
 }

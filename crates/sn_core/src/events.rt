@@ -1,4 +1,4 @@
-// What may happen to the core, what a step answers, and who owns a packet.
+//! What may happen to the core, what a step answers, and who owns a packet.
 
 /// One end of a lane: its transmitter or its receiver.
 #[derive(Clone, Copy, Debug, PartialEq, Eq)]

@@ -1,8 +1,12 @@
-// One lane between two seats: its ends, its queue, and what is laid.
-ghost use Rattle.std.specs.Prelude.{◌≡◌, ◌-◌, ◌+◌, ◌<◌, ◌≤◌, ◌^◌, length, IfOk, IsTrue, Some, None, [], ◌∷◌};
-ghost use Rattle.sn_core.specs.Lane.{LaneState, free_lane, seat_of, first_packet, is_unreleased, can_attach, attached, can_detach, detached, can_reset, was_reset, can_take, taken, can_release, released, can_drain, can_drain_release, can_lay, with_laid, published, is_side, with_field, is_down, is_up, is_half_done, field_of};
-ghost use Rattle.sn_core.specs.Core.{lays, has_end, is_in_use};
-ghost use Rattle.sn_core.specs.Found.{lane_has, place_has};
+//! One lane between two seats: its ends, its queue, and what is laid.
+
+ghost use Rattle.std.specs.Prelude.{◌≡◌, ◌-◌, ◌+◌, ◌<◌, ◌≤◌, ◌^◌, length, drop, slice_get, IfOk, IsTrue, IsSome, Some, None, Option, option_to_list, List, [], ◌∷◌};
+ghost use Rattle.std.specs.VecDeque.{deque_capacity};
+ghost use Rattle.sn_core.specs.declared.parts.Packet.{Packet};
+ghost use Rattle.sn_core.specs.Lane.{LaneState, most_laid, free_lane, seat_of, field_of, with_field, is_down, is_up, is_side, is_half_done, first_filled, unreleased, has_next, can_attach, attached, can_detach, detached, can_reset, was_reset, can_take, taken, can_release, released, can_drain, can_drain_release, can_lay, with_laid, lays, has_laid, published_some, taken_back};
+ghost use Rattle.sn_core.specs.Core.{has_end, is_in_use};
+ghost use Rattle.sn_core.specs.Ownership.{lane_has, place_has};
+ghost use Rattle.sn_core.specs.Sound.{QueueIsWhole};
 
 use crate::events::Side;
 use crate::parts::{Field, Packet};
@@ -16,6 +20,12 @@ const PLACES: usize = 1024;
 /// The most packets in a queue, laid ones included: one place stays free.
 const MOST_QUEUED: u64 = 1023;
 
+/// The most packets that may be laid at once.
+const MOST_LAID: usize = 1;
+
+/// The most places that may be emptied and not released.
+const MOST_UNRELEASED: usize = 1;
+
 /// A lane, with its queue in a ring of `PLACES` places.
 #[derive(Drop)]
 pub struct Lane {
@@ -26,14 +36,17 @@ pub struct Lane {
     put: u64,
     read: u64,
     queue: VecDeque<Option<Packet>>,
-    laid: Option<u32>,
+    /// How many places in front of the queue are emptied and not released.
+    emptied: usize,
+    laid: Vec<u32>,
     closes: Option<Side>,
 }
 
 impl Model for Lane {
-    ghost use Rattle.std.specs.Prelude.{◌≤◌};
+    ghost use Rattle.std.specs.Prelude.{◌≡◌, ◌≤◌};
+    ghost use Rattle.std.specs.Vec.{vec_capacity};
     ghost use Rattle.std.specs.VecDeque.{deque_capacity};
-    ghost use Rattle.sn_core.specs.Lane.{LaneState};
+    ghost use Rattle.sn_core.specs.Lane.{LaneState, unreleased};
 
     ghost Value = { LaneState };
 
@@ -45,11 +58,12 @@ impl Model for Lane {
       put = lane.put;
       read = lane.read;
       queue = lane.queue.items;
-      laid = lane.laid;
+      laid = lane.laid.items;
       closes = lane.closes;
     } };
 
-    ghost invariant = { λ lane. 1024 ≤ deque_capacity lane.queue };
+    ghost invariant = { λ lane. (1024 ≤ deque_capacity lane.queue) × (1 ≤ vec_capacity lane.laid)
+        × (lane.emptied ≡ unreleased lane.queue.items) };
 }
 
 impl Lane {
@@ -65,7 +79,8 @@ impl Lane {
             put: 0,
             read: 0,
             queue: VecDeque::with_capacity(alloc, PLACES)?,
-            laid: None,
+            emptied: 0,
+            laid: Vec::with_capacity(alloc, MOST_LAID)?,
             closes: None,
         })
     }
@@ -108,15 +123,6 @@ impl Lane {
         }
     }
 
-    fn is_unreleased(&self) -> bool
-        ensures { result ≡ is_unreleased self.now.queue }
-    {
-        match self.queue.front() {
-            Some(None) => true,
-            _ => false,
-        }
-    }
-
     /// Whether the end closes the lane.
     pub fn is_closed_by(&self, side: Side) -> bool
         ensures { result ≡ is_side side self.now.closes }
@@ -140,8 +146,8 @@ impl Lane {
         ensures { result ≡ is_half_done side self.now }
     {
         match side {
-            Side::Tx => self.laid.is_some(),
-            Side::Rx => self.is_unreleased(),
+            Side::Tx => self.has_laid(),
+            Side::Rx => self.emptied > 0,
         }
     }
 
@@ -163,7 +169,7 @@ impl Lane {
     pub fn can_reset(&self, side: Side) -> bool
         ensures { result ≡ can_reset side self.now }
     {
-        self.is_closed_by(side) && self.queue.is_empty() && self.laid.is_none()
+        self.is_closed_by(side) && self.queue.is_empty() && self.laid.is_empty()
     }
 
     pub fn reset(&mut self)
@@ -174,14 +180,21 @@ impl Lane {
         self.closes = None;
     }
 
-    /// The packet in the first place, if that is filled.
+    /// The packet in the first filled place.
     pub fn first(&self) -> Option<Packet>
-        ensures { result ≡ first_packet self.now.queue }
+        ensures { result ≡ first_filled self.now.queue }
     {
-        match self.queue.front() {
+        match self.queue.get(self.emptied) {
             Some(place) => *place,
             None => None,
         }
+    }
+
+    /// Whether a packet is there to take, and fewer than so many places are emptied.
+    fn has_next(&self, most: usize) -> bool
+        ensures { result ≡ has_next most self.now }
+    {
+        self.emptied < most && self.first().is_some()
     }
 
     /// Whether the packet of this number stands in the queue.
@@ -194,80 +207,111 @@ impl Lane {
     pub fn can_take(&self) -> bool
         ensures { result ≡ can_take self.now }
     {
-        self.rx == Field::Up && self.first().is_some()
+        self.rx == Field::Up && self.has_next(MOST_UNRELEASED)
     }
 
     pub fn can_drain(&self, side: Side) -> bool
         ensures { result ≡ can_drain side self.now }
     {
-        self.is_closed_by(side) && self.first().is_some()
+        self.is_closed_by(side) && self.has_next(1)
     }
 
-    /// Empties the first place.
+    /// Empties the first filled place.
     pub fn take(&mut self)
+        requires whole { QueueIsWhole self.old }
+        requires first { IsSome (first_filled self.old.queue) }
         ensures { self.new ≡ taken self.old }
     {
-        if self.queue.len() > 0 {
-            self.queue[0] = None;
-        }
+        self.queue[self.emptied] = None;
+        self.emptied += 1;
     }
 
     pub fn can_release(&self) -> bool
         ensures { result ≡ can_release self.now }
     {
-        self.rx == Field::Up && self.is_unreleased()
+        self.rx == Field::Up && self.emptied > 0
     }
 
     pub fn can_drain_release(&self, side: Side) -> bool
         ensures { result ≡ can_drain_release side self.now }
     {
-        self.is_closed_by(side) && self.is_unreleased()
+        self.is_closed_by(side) && self.emptied > 0
     }
 
-    /// Gives the emptied first place back.
+    /// Gives all emptied places back.
     pub fn release(&mut self)
-        requires { self.old.read + 1 < 2 ^ 64 }
+        requires whole { QueueIsWhole self.old }
+        requires read { self.old.read + unreleased self.old.queue < 2 ^ 64 }
         ensures { self.new ≡ released self.old }
     {
-        let _ = self.queue.pop_front();
-        self.read += 1;
+        self.read += self.emptied as u64;
+        drop_places(&mut self.queue, self.emptied);
+        self.emptied = 0;
     }
 
     pub fn can_lay(&self) -> bool
-        requires { self.now.read ≤ self.now.put }
+        requires read { self.now.read ≤ self.now.put }
+        requires put { self.now.put < 2 ^ 62 }
         ensures { result ≡ can_lay self.now }
     {
-        self.tx == Field::Up && self.laid.is_none() && self.put - self.read < MOST_QUEUED
+        self.tx == Field::Up
+            && self.laid.len() < MOST_LAID
+            && self.put + self.laid.len() as u64 - self.read < MOST_QUEUED
     }
 
-    pub fn laid(&self) -> Option<u32>
-        ensures { result ≡ self.now.laid }
+    /// Lays one packet more.
+    pub fn lay(&mut self, number: u32)
+        requires { length self.old.laid < most_laid }
+        ensures { self.new ≡ with_laid number self.old }
     {
-        self.laid
+        self.laid.push_reserved(number);
     }
 
     /// Whether this packet is laid here.
     pub fn lays(&self, number: u32) -> bool
         ensures { result ≡ lays number self.now }
     {
-        self.laid == Some(number)
+        self.laid.iter().any(|other| *other == number)
     }
 
-    pub fn set_laid(&mut self, laid: Option<u32>)
-        ensures { self.new ≡ with_laid laid self.old }
+    /// Whether something is laid.
+    pub fn has_laid(&self) -> bool
+        ensures { result ≡ has_laid self.now }
     {
-        self.laid = laid;
+        !self.laid.is_empty()
     }
 
-    /// What was laid joins the queue as this packet.
-    pub fn publish(&mut self, packet: Packet)
+    /// Takes the packet back that was laid last.
+    pub fn take_back(&mut self)
+        ensures { self.new ≡ taken_back self.old }
+    {
+        let _ = self.laid.pop();
+    }
+
+    /// The packet that was laid first.
+    pub fn first_laid(&self) -> Option<u32>
+        ensures { result ≡ slice_get self.now.laid 0 }
+    {
+        self.laid.first().copied()
+    }
+
+    /// How many packets are laid.
+    pub fn laid_len(&self) -> usize
+        ensures { result ≡ length self.now.laid }
+    {
+        self.laid.len()
+    }
+
+    /// The packet that was laid first joins the queue, and the rest stays laid.
+    pub fn publish_first(&mut self, packet: Packet)
         requires room { length self.old.queue < 1024 }
         requires put { self.old.put + 1 < 2 ^ 64 }
-        ensures { self.new ≡ published (packet ∷ []) self.old }
+        requires laid { 0 < length self.old.laid }
+        ensures { self.new ≡ published_some (packet ∷ []) (drop 1 self.old.laid) self.old }
     {
         self.queue.push_back_reserved(Some(packet));
         self.put += 1;
-        self.laid = None;
+        let _ = self.laid.remove(0);
     }
 
     /// Whether an end of this lane is the seat's, and is up or closes.
@@ -281,6 +325,16 @@ impl Lane {
         ensures { result ≡ has_end seat side self.now }
     {
         self.seat(side) == seat && (self.field(side) == Field::Up || self.is_closed_by(side))
+    }
+}
+
+/// Drops so many places in front.
+fn drop_places(queue: &mut VecDeque<Option<Packet>>, count: usize)
+    ensures places { queue.new.items ≡ drop count queue.old.items }
+    ensures capacity { deque_capacity queue.new ≡ deque_capacity queue.old }
+{
+    for _place in 0..count {
+        let _ = queue.pop_front();
     }
 }
 

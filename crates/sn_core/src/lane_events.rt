@@ -1,12 +1,14 @@
-// The events of lanes.
-ghost use Rattle.std.specs.Prelude.{◌≡◌, ◌<◌, ◌≤◌, length};
-ghost use Rattle.sn_core.specs.Core.{Core, IsStep, take_first};
-ghost use Rattle.sn_core.specs.Kept.{IsKept};
+//! The events of lanes.
+
+ghost use Rattle.std.specs.Prelude.{◌≡◌, ◌<◌, ◌≤◌, ℕ, List, [], ◌∷◌, Some, length, slice_get};
+ghost use Rattle.sn_core.specs.Core.{Core, IsStep, take_first, with_lane, with_seat};
+ghost use Rattle.sn_core.specs.Lane.{LaneState, published_some};
+ghost use Rattle.sn_core.specs.Seat.{SeatState, handed_over, without_packet};
+ghost use Rattle.sn_core.specs.Invariant.{IsKept};
 ghost use Rattle.sn_core.specs.State.{core_of};
 
 use crate::events::{Event, Side, Stepped};
 use crate::machine::Machine;
-use crate::parts::Packet;
 
 impl Machine {
     /// An end comes up.
@@ -45,7 +47,7 @@ impl Machine {
         Stepped::Done
     }
 
-    /// The receiver gives the emptied place back.
+    /// The receiver gives all emptied places back.
     pub fn release(&mut self, lane: u32) -> Stepped
         requires { IsKept (core_of self.old) }
         ensures { IsStep (core_of self.old) (Event.Release lane) result (core_of self.new) }
@@ -58,19 +60,19 @@ impl Machine {
         Stepped::Done
     }
 
-    /// The transmitter takes the laid packet back.
+    /// The transmitter takes the packet back that was laid last.
     pub fn take_back(&mut self, lane: u32) -> Stepped
         ensures { IsStep (core_of self.old) (Event.TakeBack lane) result (core_of self.new) }
     {
         let i = lane as usize;
-        if i >= self.lanes.len() || !self.lanes[i].laid().is_some() {
+        if i >= self.lanes.len() || !self.lanes[i].has_laid() {
             return Stepped::NotEnabled;
         }
-        self.lanes[i].set_laid(None);
+        self.lanes[i].take_back();
         Stepped::Done
     }
 
-    /// The closing end gives the emptied place back.
+    /// The closing end gives all emptied places back.
     pub fn drain_release(&mut self, lane: u32, side: Side) -> Stepped
         requires { IsKept (core_of self.old) }
         ensures { IsStep (core_of self.old) (Event.DrainRelease lane side) result (core_of self.new) }
@@ -120,36 +122,46 @@ impl Machine {
         }
         let seat = self.lanes[i].seat(Side::Tx) as usize;
         if !self.lanes[i].can_lay()
-            || !self.may_go(packet, seat)
-            || self.seats[seat].claims(packet)
+            || !self.may_hand_over(packet, seat)
+            || self.seats[seat].has_claimed(packet)
         {
             return Stepped::NotEnabled;
         }
-        self.lanes[i].set_laid(Some(packet));
+        self.lanes[i].lay(packet);
         Stepped::Done
     }
 
-    /// The laid packet joins the queue, with its turn raised.
+    /// All laid packets join the queue, with their turns raised.
     pub fn publish(&mut self, lane: u32) -> Stepped
         requires { IsKept (core_of self.old) }
         ensures { IsStep (core_of self.old) (Event.Publish lane) result (core_of self.new) }
     {
         let i = lane as usize;
-        if i >= self.lanes.len() {
+        if i >= self.lanes.len() || !self.lanes[i].has_laid() {
             return Stepped::NotEnabled;
         }
-        let Some(number) = self.lanes[i].laid() else {
-            return Stepped::NotEnabled;
-        };
-        let seat = self.lanes[i].seat(Side::Tx) as usize;
-        let Some(turn) = self.seats[seat].turn(number) else {
-            return Stepped::NotEnabled;
-        };
-        self.lanes[i].publish(Packet {
-            number,
-            turn: turn + 1,
-        });
-        self.seats[seat].let_go(number);
+        for _packet in 0..self.lanes[i].laid_len() {
+            self.publish_first(i);
+        }
         Stepped::Done
+    }
+
+    /// The packet that was laid first joins the queue, with its turn raised.
+    fn publish_first(&mut self, lane: usize)
+        requires kept { IsKept (core_of self.old) }
+        requires lane_in { lane < length (core_of self.old).lanes }
+        ensures { (state : LaneState) (seat : SeatState) (n : ℕ) (rest : List ℕ) →
+            slice_get (core_of self.old).lanes lane ≡ Some state →
+            slice_get (core_of self.old).seats state.tx_seat ≡ Some seat → state.laid ≡ n ∷ rest →
+            core_of self.new ≡ with_seat (with_lane (core_of self.old) lane
+            (published_some (handed_over seat n ∷ []) rest state)) state.tx_seat (without_packet n seat) }
+    {
+        let Some(number) = self.lanes[lane].first_laid() else {
+            return;
+        };
+        let seat = self.lanes[lane].seat(Side::Tx) as usize;
+        let packet = self.seats[seat].handed_over(number);
+        self.lanes[lane].publish_first(packet);
+        self.seats[seat].remove(number);
     }
 }

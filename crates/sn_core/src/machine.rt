@@ -1,10 +1,11 @@
-// Cells, lanes and seats together, and what the events share.
+//! Cells, lanes and seats together, and what the events share.
+
 ghost use Rattle.std.specs.Prelude.{◌≡◌, ◌<◌, ◌≤◌, length, IfOk, IsTrue, is_some, Some, None, slice_get, Bool, true, map, replicate};
-ghost use Rattle.sn_core.specs.Core.{Core, opened, opening_cell, may_go, lays, take_first};
+ghost use Rattle.sn_core.specs.Core.{Core, opened, opening_cell, may_hand_over, take_first};
 ghost use Rattle.sn_core.specs.Seat.{SeatState, idle_seat, is_fresh, turn_of};
 ghost use Rattle.std.specs.List.{list_any, range_with_len};
-ghost use Rattle.sn_core.specs.Lane.{LaneState, first_packet, free_lane};
-ghost use Rattle.sn_core.specs.Kept.{IsKept};
+ghost use Rattle.sn_core.specs.Lane.{LaneState, first_filled, lays, free_lane};
+ghost use Rattle.sn_core.specs.Invariant.{IsKept};
 ghost use Rattle.sn_core.specs.State.{core_of};
 
 use crate::events::Side;
@@ -40,10 +41,10 @@ impl Machine {
 
     /// Whether the seat may hand this packet over: it holds the packet, which isn't worn, and no
     /// lane has it laid.
-    pub fn may_go(&self, number: u32, seat: usize) -> bool
+    pub fn may_hand_over(&self, number: u32, seat: usize) -> bool
         requires { seat < length (core_of self.now).seats }
         ensures { (state : SeatState) → slice_get (core_of self.now).seats seat ≡ Some state →
-            result ≡ may_go (core_of self.now) number state }
+            result ≡ may_hand_over (core_of self.now) number state }
     {
         self.is_fresh(number, seat) && !self.is_laid(number)
     }
@@ -67,19 +68,19 @@ impl Machine {
         self.lanes.iter().any(|lane| lane.lays(number))
     }
 
-    /// Moves the packet in the first place of the lane, which is filled, to the seat of that end.
+    /// Moves the packet in the first filled place of the lane to the seat of that end.
     pub fn move_first(&mut self, lane: usize, side: Side)
         requires kept { IsKept (core_of self.old) }
         requires lane_in { lane < length (core_of self.old).lanes }
         ensures { (test : LaneState → Bool) (state : LaneState) →
             slice_get (core_of self.old).lanes lane ≡ Some state →
-            IsTrue (is_some (first_packet state.queue)) → test state ≡ true →
+            IsTrue (is_some (first_filled state.queue)) → test state ≡ true →
             take_first (core_of self.old) lane side test ≡ Some (core_of self.new) }
     {
         if let Some(packet) = self.lanes[lane].first() {
             let seat = self.lanes[lane].seat(side) as usize;
             self.lanes[lane].take();
-            self.seats[seat].hold(packet);
+            self.seats[seat].insert(packet);
         }
     }
 }
@@ -97,22 +98,22 @@ fn full_cells(alloc: Global, pool: u32) -> Result<Vec<Cell>, AllocError>
 
 /// A free lane for each pair of a transmitting and a receiving seat.
 fn free_lanes(alloc: Global, lanes: &[(u32, u32)]) -> Result<Vec<Lane>, AllocError>
-    ensures { IfOk result (λ made. made.items ≡ map (λ ends. free_lane ends.0 ends.1) lanes.now) }
+    ensures { IfOk result (λ free. free.items ≡ map (λ ends. free_lane ends.0 ends.1) lanes.now) }
 {
-    let mut made = Vec::with_capacity(alloc, lanes.len())?;
+    let mut free = Vec::with_capacity(alloc, lanes.len())?;
     for ends in lanes {
-        made.push(Lane::new(alloc, ends.0, ends.1)?)?;
+        free.push(Lane::new(alloc, ends.0, ends.1)?)?;
     }
-    Ok(made)
+    Ok(free)
 }
 
 /// As many seats, which hold nothing of a pool of this size.
 fn idle_seats(alloc: Global, pool: u32, seats: u32) -> Result<Vec<Seat>, AllocError>
-    ensures { IfOk result (λ made. made.items ≡ replicate seats (idle_seat pool)) }
+    ensures { IfOk result (λ idle. idle.items ≡ replicate seats (idle_seat pool)) }
 {
-    let mut made = Vec::with_capacity(alloc, seats as usize)?;
+    let mut idle = Vec::with_capacity(alloc, seats as usize)?;
     for _seat in 0..seats {
-        made.push(Seat::new(alloc, pool)?)?;
+        idle.push(Seat::new(alloc, pool)?)?;
     }
-    Ok(made)
+    Ok(idle)
 }

@@ -1,11 +1,12 @@
-// Where a packet stands in the machine.
+//! Where a packet stands in the machine.
+
 ghost use Rattle.std.specs.Prelude.{◌≡◌, ◌<◌, position, is_some};
 ghost use Rattle.std.specs.List.{list_any};
 ghost use Rattle.sn_core.specs.declared.events.Owner.{Owner};
 ghost use Rattle.sn_core.specs.Core.{pool};
-ghost use Rattle.sn_core.specs.Found.{owned_packets, cell_has, place_has, lane_has, seat_has};
+ghost use Rattle.sn_core.specs.Ownership.{owned_packets, cell_has, place_has, lane_has, seat_has};
 ghost use Rattle.sn_core.specs.Sound.{count_of};
-ghost use Rattle.sn_core.specs.Kept.{IsKept};
+ghost use Rattle.sn_core.specs.Invariant.{IsKept};
 ghost use Rattle.sn_core.specs.State.{core_of};
 
 use crate::events::Owner;

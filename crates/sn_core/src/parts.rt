@@ -1,6 +1,7 @@
-// What the core is made of: packets, the fields of a lane, cells and pending transfers.
-ghost use Rattle.std.specs.Prelude.{◌≡◌};
-ghost use Rattle.sn_core.specs.Core.{is_phase};
+//! What the core is made of: packets, the fields of a lane, cells and pending transfers.
+
+ghost use Rattle.std.specs.Prelude.{◌≡◌, true};
+ghost use Rattle.sn_core.specs.Seat.{takes, out_of};
 
 /// The highest turn of a packet. A packet at this turn is worn, and moves no more.
 pub const MAX_TURN: u64 = 281_474_976_710_655;
@@ -29,32 +30,51 @@ pub enum Cell {
     Full(Packet),
 }
 
-/// How far a transfer with a cell has come.
+/// How far a transfer between a seat and cells has come.
 #[derive(Clone, Copy, Debug, PartialEq, Eq)]
 pub enum Phase {
-    /// The full cell is claimed.
-    Taking,
-    /// Its packet is out.
-    TakenOut,
-    /// The empty cell is claimed.
+    /// Full cells are claimed, and of so many the packet is out.
+    Taking { out: u32 },
+    /// An empty cell is claimed.
     Giving,
     /// The packet is in.
     GivenIn,
 }
 
-/// A transfer of one packet between a seat and a cell, from its claim until it is done.
+impl Phase {
+    /// Whether it is a taking.
+    pub fn takes(&self) -> bool
+        ensures { result ≡ takes (λ out. true) self.now }
+    {
+        match self {
+            Phase::Taking { out: _ } => true,
+            Phase::Giving => false,
+            Phase::GivenIn => false,
+        }
+    }
+
+    /// How many packets of a taking are out.
+    pub fn out(&self) -> u32
+        ensures { result ≡ out_of self.now }
+    {
+        match self {
+            Phase::Taking { out } => *out,
+            Phase::Giving => 0,
+            Phase::GivenIn => 0,
+        }
+    }
+}
+
+/// A cell that a seat has claimed, and the packet that goes out of it or into it.
 #[derive(Clone, Copy, Debug, PartialEq, Eq)]
-pub struct Transfer {
-    pub phase: Phase,
+pub struct Claim {
     pub cell: u32,
     pub packet: u32,
 }
 
-impl Transfer {
-    /// Whether the transfer has come to this phase.
-    pub fn is_in(&self, phase: Phase) -> bool
-        ensures { result ≡ is_phase phase self.now.phase }
-    {
-        self.phase == phase
-    }
+/// A transfer of one packet, from its claim until it is done.
+#[derive(Clone, Copy, Debug, PartialEq, Eq)]
+pub struct Pending {
+    pub phase: Phase,
+    pub claim: Claim,
 }

@@ -1,13 +1,13 @@
-// The events of seats alone.
+//! The events of seats alone.
+
 ghost use Rattle.std.specs.Prelude.{◌≡◌, ◌<◌, ◌≤◌, length, Some, None};
-ghost use Rattle.sn_core.specs.Core.{Core, IsStep, go_on, is_in_use};
+ghost use Rattle.sn_core.specs.Core.{Core, IsStep, is_in_use};
 ghost use Rattle.std.specs.List.{list_any};
-ghost use Rattle.sn_core.specs.Kept.{IsKept};
+ghost use Rattle.sn_core.specs.Invariant.{IsKept};
 ghost use Rattle.sn_core.specs.State.{core_of};
 
 use crate::events::{Event, Side, Stepped};
 use crate::machine::Machine;
-use crate::parts::{Phase, Transfer};
 
 impl Machine {
     /// A number is said to a worker.
@@ -62,40 +62,27 @@ impl Machine {
         self.lanes.iter().any(|lane| lane.is_in_use(seat))
     }
 
-    /// The packet of the claimed cell is out.
+    /// The packet of the next claimed cell is out.
     pub fn take_out(&mut self, seat: u32) -> Stepped
         ensures { IsStep (core_of self.old) (Event.TakeOut seat) result (core_of self.new) }
     {
-        self.go_on(seat, Phase::Taking, Phase::TakenOut)
+        let s = seat as usize;
+        if s >= self.seats.len() || !self.seats[s].can_take_out() {
+            return Stepped::NotEnabled;
+        }
+        self.seats[s].take_out();
+        Stepped::Done
     }
 
     /// The packet is in the claimed cell.
     pub fn give_in(&mut self, seat: u32) -> Stepped
         ensures { IsStep (core_of self.old) (Event.GiveIn seat) result (core_of self.new) }
     {
-        self.go_on(seat, Phase::Giving, Phase::GivenIn)
-    }
-
-    /// A seat's transfer goes on from one phase to another.
-    fn go_on(&mut self, seat: u32, from: Phase, to: Phase) -> Stepped
-        ensures done { result ≡ Stepped.Done →
-            go_on (core_of self.old) seat from to ≡ Some (core_of self.new) }
-        ensures not_enabled { result ≡ Stepped.NotEnabled → go_on (core_of self.old) seat from to ≡ None }
-        ensures unchanged { result ≡ Stepped.NotEnabled → self.new ≡ self.old }
-    {
         let s = seat as usize;
-        if s >= self.seats.len() {
+        if s >= self.seats.len() || !self.seats[s].can_give_in() {
             return Stepped::NotEnabled;
         }
-        match self.seats[s].pending() {
-            Some(transfer) if transfer.phase == from => {
-                self.seats[s].set_pending(Some(Transfer {
-                    phase: to,
-                    ..transfer
-                }));
-                Stepped::Done
-            }
-            _ => Stepped::NotEnabled,
-        }
+        self.seats[s].give_in();
+        Stepped::Done
     }
 }

@@ -1,7 +1,8 @@
-// The core as callers see it: it opens, steps by events, and says who owns a packet.
+//! The core as callers see it: it opens, steps by events, and says who owns a packet.
+
 ghost use Rattle.std.specs.Prelude.{◌≡◌, ◌≢◌, ℕ, ◌<◌, ◌≤◌, length, IfOk, All, is_some, if◌then◌else◌};
 ghost use Rattle.sn_core.specs.Core.{Core, IsStep, opened, pool, all_after, done_count, after, next, IsPairOfSeats};
-ghost use Rattle.sn_core.specs.Found.{owned_packets};
+ghost use Rattle.sn_core.specs.Ownership.{owned_packets};
 ghost use Rattle.sn_core.specs.Sound.{IsSound, count_of};
 ghost use Rattle.sn_core.specs.declared.events.Owner.{Owner};
 
@@ -19,7 +20,7 @@ pub struct CoreState {
 impl Model for CoreState {
     ghost use Rattle.sn_core.specs.Core.{Core};
     ghost use Rattle.sn_core.specs.State.{core_of};
-    ghost use Rattle.sn_core.specs.Kept.{IsKept};
+    ghost use Rattle.sn_core.specs.Invariant.{IsKept};
 
     ghost Value = { Core };
 
@@ -70,14 +71,14 @@ impl CoreState {
     {
         let mut done = 0;
         for event in events {
-            done += state.made(*event);
+            done += state.count_step(*event);
         }
         state.prove_sound();
         done
     }
 
     /// One step, with 1 where it was done.
-    fn made(&mut self, event: Event) -> u64
+    fn count_step(&mut self, event: Event) -> u64
         ensures state { self.new ≡ next self.old event }
         ensures count { result ≡ (if is_some (after self.old event) then 1 else 0) }
     {

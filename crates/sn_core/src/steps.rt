@@ -1,6 +1,7 @@
-// One step of the machine, by its event.
+//! One step of the machine, by its event.
+
 ghost use Rattle.sn_core.specs.Core.{IsStep};
-ghost use Rattle.sn_core.specs.Kept.{IsKept};
+ghost use Rattle.sn_core.specs.Invariant.{IsKept};
 ghost use Rattle.sn_core.specs.State.{core_of};
 
 use crate::events::{Event, Stepped};

@@ -1,4 +1,5 @@
-// What no clause says of the core by itself: worked cases, a table of all events, and a long run.
+//! What no clause says of the core by itself: worked cases, a table of all events, and a long run.
+
 use crate::{CoreState, Event, Owner, Side, Stepped};
 use std::alloc::AllocError;
 use std::test::Fail;
@@ -23,7 +24,7 @@ const HAND_OVER: [Event; 9] = [
 ];
 
 #[test]
-fn core_hand_over(rt: HostRuntime) -> Result<(), Fail> {
+fn core_hand_over_leaves_the_packet_with_the_receiving_seat(rt: HostRuntime) -> Result<(), Fail> {
     let mut state = CoreState::open(rt.alloc(), 2, 2, &[(0, 1)])?;
     assert_eq!(rt; CoreState::run(&mut state, &HAND_OVER), 9);
     assert_eq!(rt; state.owner(0), Owner::Seat(1));
@@ -33,7 +34,9 @@ fn core_hand_over(rt: HostRuntime) -> Result<(), Fail> {
 }
 
 #[test]
-fn publish_on_an_opened_state_is_not_enabled(rt: HostRuntime) -> Result<(), Fail> {
+fn refused_port_app_event_publish_on_an_opened_core_is_not_enabled(
+    rt: HostRuntime,
+) -> Result<(), Fail> {
     let mut state = CoreState::open(rt.alloc(), 1, 2, &[(0, 1)])?;
     assert_eq!(rt; state.step(Event::Publish { lane: 0 }), Stepped::NotEnabled);
     Ok(())
@@ -316,7 +319,7 @@ const EVERY_EVENT: [(Event, Stepped); 83] = [
 ];
 
 #[test]
-fn every_event_is_done_and_refused(rt: HostRuntime) -> Result<(), Fail> {
+fn every_event_is_done_and_not_enabled(rt: HostRuntime) -> Result<(), Fail> {
     let mut state = CoreState::open(rt.alloc(), 3, 2, &[(0, 1)])?;
     for (row, (event, stepped)) in EVERY_EVENT.iter().enumerate() {
         assert_eq!(rt; state.step(*event), *stepped, "at row {row}");
@@ -349,7 +352,7 @@ fn push_round(events: &mut Vec<Event>, cell: u32) -> Result<(), AllocError> {
 }
 
 #[test]
-fn a_hundred_thousand_events_over_a_pool_of_4096(rt: HostRuntime) -> Result<(), Fail> {
+fn a_hundred_thousand_events_are_done_over_a_pool_of_4096(rt: HostRuntime) -> Result<(), Fail> {
     let mut state = CoreState::open(rt.alloc(), 4096, 2, &[(0, 1)])?;
     let mut events = Vec::new(rt.alloc());
     for round in 0..10_000_u32 {

@@ -1,8 +1,8 @@
 use Rattle.std.proofs.Common.{◌<◌, length, sym, ◌∙◌, arith}
 use Rattle.std.proofs.lemmas.Option.{slice_get_within}
 use Rattle.sn_core.specs.State.{core_of}
-use Rattle.sn_core.specs.Found.{lane_has, seat_has}
-use Rattle.sn_core.proofs.OneOwner.{position_found, once_in_cell, once_in_lane, once_in_seat, somewhere}
+use Rattle.sn_core.specs.Ownership.{lane_has, seat_has}
+use Rattle.sn_core.proofs.Ownership.{position_found, once_in_cell, once_in_lane, once_in_seat, somewhere}
 use Rattle.sn_core.proofs.machine.Machine.owner.Goals as goal
 
 pub overflow_cast-result : goal.overflow_cast-result

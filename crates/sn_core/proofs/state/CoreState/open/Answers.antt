@@ -1,6 +1,6 @@
 use Rattle.std.proofs.Common.{sym, subst}
-use Rattle.sn_core.specs.Kept.{IsKept}
-use Rattle.sn_core.proofs.Opened.{opened_kept}
+use Rattle.sn_core.specs.Invariant.{IsKept}
+use Rattle.sn_core.proofs.Opening.{opened_kept}
 use Rattle.sn_core.proofs.state.CoreState.open.Goals as goal
 
 pub invariant_of-result : goal.invariant_of-result

@@ -1,8 +1,8 @@
 use Rattle.std.proofs.Common.{arith, sym, subst, ◌<◌}
 use Rattle.sn_core.specs.State.{core_of}
-use Rattle.sn_core.specs.Found.{owned_packets}
+use Rattle.sn_core.specs.Ownership.{owned_packets}
 use Rattle.sn_core.specs.Sound.{count_of}
-use Rattle.sn_core.proofs.OneOwner.{one_owner}
+use Rattle.sn_core.proofs.Ownership.{one_owner}
 use Rattle.sn_core.proofs.state.CoreState.owner.Goals as goal
 
 pub returns-clause-only : goal.returns-clause-only

@@ -1,6 +1,6 @@
 -- Every event keeps the facts, whether it was done or not.
 use Rattle.sn_core.specs.State.{core_of}
-use Rattle.sn_core.proofs.KeepsAll.{step_keeps}
+use Rattle.sn_core.proofs.EventPreservation.{step_keeps}
 use Rattle.sn_core.proofs.state.CoreState.step.Goals as goal
 
 pub invariant_of-self : goal.invariant_of-self

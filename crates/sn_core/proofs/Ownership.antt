@@ -13,11 +13,11 @@ use Rattle.sn_core.specs.declared.parts.Cell.TheVariants.{Empty, Busy, Full}
 use Rattle.sn_core.specs.Lane.{LaneState, free_lane}
 use Rattle.sn_core.specs.Seat.{SeatState, packets_from, held_packets, joined, turn_of, idle_seat}
 use Rattle.sn_core.specs.Core.{Core, pool, cell_packets, place_packets, queued_packets}
-use Rattle.sn_core.specs.Found.{found_at, owned_packets, cell_has, place_has, lane_has, seat_has}
+use Rattle.sn_core.specs.Ownership.{found_at, owned_packets, cell_has, place_has, lane_has, seat_has}
 use Rattle.sn_core.specs.Sound.{StandsOnce, count_of}
 use Rattle.sn_core.proofs.Weights.{weigh_is, cell_weight, lane_weight, seat_weight, cell_weight_of, lane_weight_of, seat_weight_of, cell_weight-full, cell_weight-empty, free_lane_weight, slot_weight_of, packets_from-cons, slot_weight, at-le-sum_by}
-use Rattle.sn_core.proofs.Standing.{is_one, is_one-at, none_if, count_is, counted_at_most_once, seat_weight-held, idle_weight}
-use Rattle.sn_core.proofs.Writes.{two-le-sum_by}
+use Rattle.sn_core.proofs.Counts.{is_one, is_one-at, none_if, count_is, counted_at_most_once, seat_weight-held, idle_weight}
+use Rattle.sn_core.proofs.Writes.{two-le-sum_by, sum_zero}
 
 -- what `position` finds, and that it misses nothing
 pub position_found : {X : Type 0} (p : X → Bool) (xs : List X) (i : ℕ) → position p xs ≡ Some i → (P : Type 0) → ((x : X) → slice_get xs i ≡ Some x → p x ≡ true → P) → P
@@ -34,10 +34,6 @@ position_missed p xs e k x at =
       cond_none : (b : Bool) (n : ℕ) → cond b (Some n) None ≡ None → b ≡ false
       cond_none true n e = cc
       cond_none false n e = refl
-
-sum_zero : {X : Type 0} (f : X → ℕ) (xs : List X) → ((k : ℕ) (x : X) → slice_get xs k ≡ Some x → f x ≡ 0) → sum_by f xs ≡ 0
-sum_zero f [] each = refl
-sum_zero f (x ∷ xs) each = omega (arith, sum_by-cons f x xs, each 0 x refl, sum_zero f xs (λ k y at. each (suc k) y at))
 
 -- the tests say whether the number counts
 one_or_none : (n : ℕ) (packet : Packet) → eqb packet.number n ≡ false → is_one n packet ≡ 0

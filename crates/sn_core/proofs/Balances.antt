@@ -4,13 +4,13 @@ use Rattle.std.specs.List.{sum_by, All}
 use Rattle.std.proofs.lemmas.Bool.{le-ltb, lt-ltb, cases_lt}
 use Rattle.std.proofs.lemmas.List.Sums.{sum_by-cons, sum_by-le, get_or-le-sum_by}
 use Rattle.std.proofs.lemmas.List.Elements.{All-nil, All-cons, All-head, All-tail}
-use Rattle.sn_core.specs.declared.parts.TheConstants.{MAX_TURN}
 use Rattle.sn_core.specs.declared.parts.Packet.{Packet}
 use Rattle.sn_core.specs.Lane.{LaneState}
+use Rattle.sn_core.specs.Seat.{highest_turn}
 use Rattle.sn_core.specs.Core.{Core, pool, standing}
 use Rattle.sn_core.specs.Sound.{StandsOnce, TurnsBound, count_of}
 use Rattle.sn_core.proofs.Weights.{weigh, weigh_of}
-use Rattle.sn_core.proofs.Standing.{is_one, count_is}
+use Rattle.sn_core.proofs.Counts.{is_one, count_is}
 
 abbrev pub put_of : LaneState → ℕ
 put_of lane = lane.put
@@ -23,7 +23,7 @@ pub record HandsOver (old new : Core) (before now : Packet) : Type 0 where
   pub size : pool new ≡ pool old
   pub weight : (f : Packet → ℕ) → weigh f new + f before ≡ weigh f old + f now
   pub same : before.number ≡ now.number
-  pub bound : now.turn ≤ MAX_TURN
+  pub bound : now.turn ≤ highest_turn
   pub puts : sum_by put_of new.lanes + before.turn ≤ sum_by put_of old.lanes + now.turn
 
 -- packets only move
@@ -39,20 +39,20 @@ moves old new size weight puts =
 
 -- 1 for a packet whose turn is too high
 abbrev pub too_high : Packet → ℕ
-too_high packet = cond (ltb MAX_TURN packet.turn) 1 0
+too_high packet = cond (ltb highest_turn packet.turn) 1 0
 
-pub not_too_high : (packet : Packet) → packet.turn ≤ MAX_TURN → too_high packet ≡ 0
-not_too_high packet le = ap (λ b. cond b 1 0) (le-ltb MAX_TURN packet.turn le)
+pub not_too_high : (packet : Packet) → packet.turn ≤ highest_turn → too_high packet ≡ 0
+not_too_high packet le = ap (λ b. cond b 1 0) (le-ltb highest_turn packet.turn le)
 
-bounded : (packet : Packet) → too_high packet ≡ 0 → packet.turn ≤ MAX_TURN
+bounded : (packet : Packet) → too_high packet ≡ 0 → packet.turn ≤ highest_turn
 bounded packet zero_is =
-    elim (cases_lt MAX_TURN packet.turn) [
-      | inl lt ↦ (let one : too_high packet ≡ 1 = ap (λ b. cond b 1 0) (lt-ltb MAX_TURN packet.turn lt) in omega (arith, one, zero_is))
+    elim (cases_lt highest_turn packet.turn) [
+      | inl lt ↦ (let one : too_high packet ≡ 1 = ap (λ b. cond b 1 0) (lt-ltb highest_turn packet.turn lt) in omega (arith, one, zero_is))
       | inr ge ↦ ge
     ]
 
 abbrev pub IsBounded : Packet → Type 0
-IsBounded packet = packet.turn ≤ MAX_TURN
+IsBounded packet = packet.turn ≤ highest_turn
 
 none_too_high : (xs : List Packet) → All IsBounded xs → sum_by too_high xs ≡ 0
 none_too_high [] all = refl
@@ -104,5 +104,5 @@ turns_after old new before now h size total bound =
       length_new : length (standing new) ≡ pool new
       length_new = total_after old new before now h total
 
-      most : sum_by turn_number (standing new) ≤ length (standing new) * MAX_TURN
-      most = sum_by-le turn_number MAX_TURN (standing new) turns_new
+      most : sum_by turn_number (standing new) ≤ length (standing new) * highest_turn
+      most = sum_by-le turn_number highest_turn (standing new) turns_new

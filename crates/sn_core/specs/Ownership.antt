@@ -2,7 +2,6 @@
 use Rattle.std.specs.Prelude.{ℕ, Bool, false, ◌==◌, Option, Some, None, is_some, List, [], slice_get}
 use Rattle.std.specs.List.{list_any}
 use Rattle.sn_core.specs.declared.events.Owner.{Owner}
-use Rattle.sn_core.specs.declared.events.Owner.TheVariants as Owner
 use Rattle.sn_core.specs.declared.parts.Packet.{Packet}
 use Rattle.sn_core.specs.declared.parts.Cell.{Cell}
 use Rattle.sn_core.specs.declared.parts.Cell.TheVariants.{Empty, Busy, Full}

@@ -9,11 +9,11 @@ abbrev events : List Event
 events =
     TakeClaim 0 0 ∷ TakeOut 0 ∷ TakeDone 0 ∷ Attach 0 Tx ∷ Lay 0 0 ∷ Publish 0 ∷ Attach 0 Rx ∷ Take 0 ∷ Release 0 ∷ []
 
-all_done : done_count (opened 2 2 ((0, 1) ∷ [])) events ≡ 9
+pub all_done : done_count (opened 2 2 ((0, 1) ∷ [])) events ≡ 9
 all_done = refl
 
-once_only : after (all_after (opened 2 2 ((0, 1) ∷ [])) events) (Release 0) ≡ None
+pub once_only : after (all_after (opened 2 2 ((0, 1) ∷ [])) events) (Release 0) ≡ None
 once_only = refl
 
-where_all_stands : standing (all_after (opened 2 2 ((0, 1) ∷ [])) events) ≡ record { number = 1; turn = 0 } ∷ record { number = 0; turn = 1 } ∷ []
+pub where_all_stands : standing (all_after (opened 2 2 ((0, 1) ∷ [])) events) ≡ record { number = 1; turn = 0 } ∷ record { number = 0; turn = 1 } ∷ []
 where_all_stands = refl

@@ -1,12 +1,11 @@
 -- What the machine keeps beside Sound: its sizes, and that what is about to be handed over isn't worn.
-use Rattle.std.specs.Prelude.{◌≡◌, ℕ, ◌<◌, ◌≤◌, Some, IsTrue, length, slice_get, All}
+use Rattle.std.specs.Prelude.{◌≡◌, ℕ, ◌<◌, ◌≤◌, Option, Some, None, IsTrue, length, slice_get, All}
 use Rattle.sn_core.specs.declared.parts.Phase.{Phase}
-use Rattle.sn_core.specs.declared.parts.Phase.TheVariants.{Taking, TakenOut, Giving, GivenIn}
-use Rattle.sn_core.specs.declared.parts.Transfer.{Transfer}
-use Rattle.sn_core.specs.Lane.{LaneState}
-use Rattle.sn_core.specs.Seat.{is_fresh}
+use Rattle.sn_core.specs.declared.parts.Phase.TheVariants.{Taking, Giving, GivenIn}
+use Rattle.sn_core.specs.Lane.{LaneState, laid_count}
+use Rattle.sn_core.specs.Seat.{SeatState, Transfer, is_fresh, turn_of, claim_count}
 use Rattle.sn_core.specs.Core.{Core, pool, standing}
-use Rattle.sn_core.specs.Sound.{turn_at, pending_at, IsSound}
+use Rattle.sn_core.specs.Sound.{turn_at, IsSound}
 
 -- both ends of a lane are seats that are there
 pub record JoinsSeats (seats : ℕ) (lane : LaneState) : Type 0 where
@@ -23,14 +22,22 @@ pub record HasShape (core : Core) : Type 0 where
 
 -- the transfer is a giving
 abbrev pub Gives : Phase → Type 0
-Gives Taking = ⊥
-Gives TakenOut = ⊥
+Gives (Taking out) = ⊥
 Gives Giving = Unit {0}
 Gives GivenIn = Unit {0}
 
+abbrev pub IsGiving : Option Transfer → Type 0
+IsGiving None = ⊥
+IsGiving (Some transfer) = Gives transfer.phase
+
+-- what a seat gives isn't worn
+pub record GivesFresh (seat : SeatState) : Type 0 where
+  pub fresh : (n : ℕ) → IsGiving seat.pending → 0 < claim_count n seat → IsTrue (is_fresh (turn_of n seat))
+
 pub record IsUnworn (core : Core) : Type 0 where
-  pub laid : (i n : ℕ) (lane : LaneState) → slice_get core.lanes i ≡ Some lane → lane.laid ≡ Some n → IsTrue (is_fresh (turn_at core lane.tx_seat n))
-  pub given : (s : ℕ) (transfer : Transfer) → pending_at core s ≡ Some transfer → Gives transfer.phase → IsTrue (is_fresh (turn_at core s transfer.packet))
+  pub laid : (i n : ℕ) (lane : LaneState) → slice_get core.lanes i ≡ Some lane → 0 < laid_count n lane →
+      IsTrue (is_fresh (turn_at core lane.tx_seat n))
+  pub given : All GivesFresh core.seats
 
 pub record IsKept (core : Core) : Type 0 where
   pub sound : IsSound core

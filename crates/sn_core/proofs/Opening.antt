@@ -1,25 +1,21 @@
 -- The core as it opens has the machine's facts.
-use Rattle.std.proofs.Common.{◌≡◌, ◌≢◌, ℕ, ◌+◌, ◌*◌, ◌^◌, ◌<◌, ◌≤◌, Option, List, [], ◌∷◌, length, map, replicate, Some, None, IsSome, refl, sym, ap, ◌∙◌, subst, arith, slice_get, zero, suc, inl, inr, cond, ◌⊎◌, ⊎_elim}
-use Rattle.std.specs.Prelude.{option_map}
+use Rattle.std.proofs.Common.{◌≡◌, ◌≢◌, ℕ, ◌+◌, ◌*◌, ◌^◌, ◌<◌, ◌≤◌, Bool, false, List, [], ◌∷◌, length, map, replicate, Some, None, refl, sym, ap, ◌∙◌, subst, arith, slice_get, zero, suc, inl, inr, cond, ◌⊎◌, ⊎_elim}
 use Rattle.std.specs.List.{range_with_len, sum_by, All}
 use Rattle.std.proofs.lemmas.Bool.{eq-eqb, ne_eqb, cases_eq, false≢true}
-use Rattle.std.proofs.lemmas.Option.{none-some}
 use Rattle.std.proofs.lemmas.List.{length-replicate, length-map}
 use Rattle.std.proofs.lemmas.List.Sums.{sum_by-cons}
 use Rattle.std.proofs.lemmas.List.Folds.{sum_by-replicate}
 use Rattle.std.proofs.lemmas.List.Elements.{All-replicate, All-nil, All-cons, All-head, All-tail}
 use Rattle.sn_core.specs.declared.parts.Packet.{Packet}
-use Rattle.sn_core.specs.declared.parts.Cell.TheVariants.{Busy}
-use Rattle.sn_core.specs.declared.parts.Transfer.{Transfer}
-use Rattle.sn_core.specs.Lane.{LaneState, free_lane}
-use Rattle.sn_core.specs.Seat.{idle_seat}
+use Rattle.sn_core.specs.Lane.{LaneState, free_lane, laid_count}
+use Rattle.sn_core.specs.Seat.{idle_seat, claim_count}
 use Rattle.sn_core.specs.Core.{Core, opened, opening_cell, pool, standing, IsPairOfSeats}
-use Rattle.sn_core.specs.Sound.{laid_at, pending_at, pending_cell, QueueIsWhole, ClosesWhereDown, HeardWasSaid}
-use Rattle.sn_core.specs.Kept.{IsKept, JoinsSeats}
-use Rattle.sn_core.proofs.Weights.{weigh, weigh_is, weigh_of, cell_weight, lane_weight, seat_weight, cell_weight-full, All_at, free_lane_weight, idle_pool_weight}
-use Rattle.sn_core.proofs.Standing.{is_one, count_is}
-use Rattle.sn_core.proofs.HandOvers.{too_high, not_too_high, all_bounded, length_is}
-use Rattle.sn_core.proofs.Links.{at_lane, at_seat}
+use Rattle.sn_core.specs.Sound.{cell_count_in, is_busy, LaneIsSound, SeatIsSound}
+use Rattle.sn_core.specs.Invariant.{GivesFresh, IsKept, JoinsSeats}
+use Rattle.sn_core.proofs.Weights.{weigh, weigh_is, weigh_of, cell_weight, lane_weight, seat_weight, cell_weight-full, free_lane_weight, idle_pool_weight, at-le-sum_by}
+use Rattle.sn_core.proofs.Counts.{is_one, count_is}
+use Rattle.sn_core.proofs.Balances.{too_high, not_too_high, all_bounded, length_is}
+use Rattle.sn_core.proofs.LaneSoundness.{free_sound}
 
 here : (n first : ℕ) → first ≡ n → cell_weight (is_one n) (opening_cell first) ≡ 1
 here n first e = cell_weight-full (is_one n) (record { number = first; turn = 0 }) ∙ ap (λ b. cond b 1 0) (eq-eqb first n e)
@@ -48,12 +44,6 @@ length_cells : (first count : ℕ) → length (map opening_cell (range_with_len 
 length_cells first zero = refl
 length_cells first (suc count) = omega (arith, length_cells (first + 1) count)
 
--- every cell is full, at turn 0
-never_busy : (first count c s : ℕ) → slice_get (map opening_cell (range_with_len first count)) c ≡ Some (Busy s) → ⊥
-never_busy first zero c s e = cc
-never_busy first (suc count) zero s e = cc
-never_busy first (suc count) (suc c) s e = never_busy (first + 1) count c s e
-
 -- lanes and seats as they open
 free_at : (P : LaneState → Type 0) (lanes : List (ℕ × ℕ)) → ((a b : ℕ) → P (free_lane a b)) → All P (map (λ ends. free_lane ends.0 ends.1) lanes)
 free_at P [] p = All-nil P
@@ -77,27 +67,36 @@ ends_joined seats (ends ∷ lanes) all =
     let first = All-head (IsPairOfSeats seats) ends lanes all in
     All-cons (JoinsSeats seats) (free_lane ends.0 ends.1) (map (λ e. free_lane e.0 e.1) lanes) (record { tx = first.0; rx = first.1 }) (ends_joined seats lanes (All-tail (IsPairOfSeats seats) ends lanes all))
 
--- nothing is laid and nothing is pending
-nothing_laid : (core : Core) → All (λ lane. lane.laid ≡ None) core.lanes → (i n : ℕ) → laid_at core i ≡ Some n → ⊥
-nothing_laid core all i n e =
-    at_lane core i n e ⊥ (λ lane at laid. none-some n (sym (All_at (λ l. l.laid ≡ None) core.lanes i lane all at) ∙ laid))
+-- nothing is laid, and no cell is claimed
+nothing_laid : (n : ℕ) (lanes : List (ℕ × ℕ)) → sum_by (laid_count n) (map (λ ends. free_lane ends.0 ends.1) lanes) ≡ 0
+nothing_laid n [] = refl
+nothing_laid n (ends ∷ lanes) =
+    omega (arith, sum_by-cons (laid_count n) (free_lane ends.0 ends.1) (map (λ e. free_lane e.0 e.1) lanes), nothing_laid n lanes)
 
-nothing_pending : (core : Core) → All (λ seat. seat.pending ≡ None) core.seats → (s : ℕ) (transfer : Transfer) → pending_at core s ≡ Some transfer → ⊥
-nothing_pending core all s transfer e =
-    at_seat core s transfer e ⊥ (λ seat at pending. none-some transfer (sym (All_at (λ x. x.pending ≡ None) core.seats s seat all at) ∙ pending))
+nothing_claimed : (n seats pool : ℕ) → sum_by (claim_count n) (replicate seats (idle_seat pool)) ≡ 0
+nothing_claimed n zero pool = refl
+nothing_claimed n (suc seats) pool =
+    omega (arith, sum_by-cons (claim_count n) (idle_seat pool) (replicate seats (idle_seat pool)), nothing_claimed n seats pool)
 
-no_pending_cell : (core : Core) → All (λ seat. seat.pending ≡ None) core.seats → (s c : ℕ) → pending_cell core s ≡ Some c → ⊥
-no_pending_cell core all s c e = go (pending_at core s) refl e where
-  go : (o : Option Transfer) → pending_at core s ≡ o → option_map (λ transfer. transfer.cell) o ≡ Some c → ⊥
-  go None is e = none-some c e
-  go (Some transfer) is e = nothing_pending core all s transfer is
+no_cell_claimed : (c s seats pool : ℕ) → cell_count_in c (slice_get (replicate seats (idle_seat pool)) s) ≡ 0
+no_cell_claimed c s zero pool = refl
+no_cell_claimed c zero (suc seats) pool = refl
+no_cell_claimed c (suc s) (suc seats) pool = no_cell_claimed c s seats pool
 
-free_whole : (a b : ℕ) → QueueIsWhole (free_lane a b)
-free_whole a b =
-    record { positions = refl; room = omega arith; laid_room = λ e. omega arith; filled = All-nil (λ place. IsSome place); unreleased = λ e. absurd (false≢true e) }
+no_cell_busy : (first count c s : ℕ) → is_busy s (slice_get (map opening_cell (range_with_len first count)) c) ≡ false
+no_cell_busy first zero c s = refl
+no_cell_busy first (suc count) zero s = refl
+no_cell_busy first (suc count) (suc c) s = no_cell_busy (first + 1) count c s
 
-free_closes : (a b : ℕ) → ClosesWhereDown (free_lane a b)
-free_closes a b = record { closer = refl; queue = λ e. refl; laid = λ e. refl }
+abbrev one_if : Bool → ℕ
+one_if b = cond b 1 0
+
+idle_sound : (pool : ℕ) → SeatIsSound (idle_seat pool)
+idle_sound pool =
+    record {
+      claims = record { some = λ pends. absurd (false≢true pends); few = omega arith; held = λ n some. absurd (omega (arith, some)) };
+      heard = omega arith;
+    }
 
 -- the packets that stand as the core opens: each number of the pool once, at turn 0
 opened_weight : (f : Packet → ℕ) (pool seats : ℕ) (lanes : List (ℕ × ℕ)) → weigh f (opened pool seats lanes) ≡ sum_by (cell_weight f) (map opening_cell (range_with_len 0 pool))
@@ -122,23 +121,17 @@ opened_kept count seats lanes size few_seats few_lanes ends =
           beyond = λ n ge. count_is core n ∙ opened_weight (is_one n) count seats lanes ∙ out_of_cells n 0 count (inr (omega (arith, length_cells 0 count)));
         };
         laid = record {
-          held = λ i n lane at laid. absurd (nothing i n (rw at laid));
-          up = λ i n lane at laid. absurd (nothing i n (rw at laid));
-          once = λ i j n laid other. absurd (nothing i n laid);
-          unclaimed = λ i s n transfer laid pending e. nothing i n laid;
+          held = λ i n lane at some. absurd (nothing i n lane at some);
+          once = λ n. omega (arith, nothing_laid n lanes, nothing_claimed n seats count);
         };
-        claims = record {
-          cell = λ c s. (λ e. absurd (never_busy 0 count c s e), λ e. absurd (no_pending_cell core idle s c e));
-          held = λ s transfer e. absurd (nothing_pending core idle s transfer e);
-        };
-        queues = free_at QueueIsWhole lanes free_whole;
-        closes = free_at ClosesWhereDown lanes free_closes;
+        claims = λ c s. no_cell_claimed c s seats count ∙ sym (ap one_if (no_cell_busy 0 count c s));
+        lanes = free_at LaneIsSound lanes free_sound;
+        seats = All-replicate SeatIsSound seats (idle_seat count) (idle_sound count);
         turns = record {
           turns = all_bounded (standing core) (sym (weigh_of too_high core) ∙ opened_weight too_high count seats lanes ∙ turns_zero 0 count);
           positions = omega (arith, free_puts lanes);
           below = free_at (λ lane. lane.put < 2 ^ 62) lanes (λ a b. omega arith);
         };
-        heard = All-replicate HeardWasSaid seats (idle_seat count) (omega arith);
       };
       shape = record {
         size = omega (arith, length_cells 0 count);
@@ -149,18 +142,12 @@ opened_kept count seats lanes size few_seats few_lanes ends =
         total = length_is (standing core) ∙ sym (weigh_of (λ packet. 1) core) ∙ opened_weight (λ packet. 1) count seats lanes ∙ ones 0 count ∙ sym (length_cells 0 count);
       };
       unworn = record {
-        laid = λ i n lane at laid. absurd (nothing i n (rw at laid));
-        given = λ s transfer e gives. absurd (nothing_pending core idle s transfer e);
+        laid = λ i n lane at some. absurd (nothing i n lane at some);
+        given = All-replicate GivesFresh seats (idle_seat count) (record { fresh = λ n gives some. absurd gives });
       };
     } where
       core : Core
       core = opened count seats lanes
 
-      free : All (λ lane. lane.laid ≡ None) (map (λ e. free_lane e.0 e.1) lanes)
-      free = free_at (λ lane. lane.laid ≡ None) lanes (λ a b. refl)
-
-      idle : All (λ seat. seat.pending ≡ None) (replicate seats (idle_seat count))
-      idle = All-replicate (λ seat. seat.pending ≡ None) seats (idle_seat count) refl
-
-      nothing : (i n : ℕ) → laid_at (opened count seats lanes) i ≡ Some n → ⊥
-      nothing = nothing_laid (opened count seats lanes) free
+      nothing : (i n : ℕ) (lane : LaneState) → slice_get (map (λ ends. free_lane ends.0 ends.1) lanes) i ≡ Some lane → 0 < laid_count n lane → ⊥
+      nothing i n lane at some = omega (arith, some, nothing_laid n lanes, at-le-sum_by (laid_count n) (map (λ ends. free_lane ends.0 ends.1) lanes) i lane at)

@@ -3,11 +3,11 @@ use Rattle.std.proofs.Common.{◌≡◌, ℕ, ◌<◌, ◌≤◌, Option, Some, 
 use Rattle.std.proofs.lemmas.Bool.{eq-eqb, cases_lt}
 use Rattle.sn_core.specs.declared.parts.Packet.{Packet}
 use Rattle.sn_core.specs.declared.parts.Cell.TheVariants.{Full}
-use Rattle.sn_core.specs.Lane.{LaneState, first_packet}
+use Rattle.sn_core.specs.Lane.{LaneState, first_filled}
 use Rattle.sn_core.specs.Seat.{SeatState, turn_of, idle_seat}
 use Rattle.sn_core.specs.Core.{Core, pool, standing}
 use Rattle.sn_core.specs.Sound.{StandsOnce, count_of}
-use Rattle.sn_core.proofs.Weights.{weigh, weigh_of, weigh_is, cell_weight, lane_weight, seat_weight, at-le-sum_by, cell_weight-full, lane_weight-taken, seat_weight-letting_go, idle_seat_weight}
+use Rattle.sn_core.proofs.Weights.{weigh, weigh_of, weigh_is, cell_weight, lane_weight, seat_weight, at-le-sum_by, cell_weight-full, lane_weight-taken, seat_weight-without_packet, idle_seat_weight}
 
 -- 1 for a packet of this number, and 0 for others
 abbrev pub is_one : ℕ → Packet → ℕ
@@ -42,12 +42,12 @@ pub cell_counts : (core : Core) (c : ℕ) (packet : Packet) → slice_get core.c
 cell_counts core c packet at =
     omega (arith, weigh_is (is_one packet.number) core, at-le-sum_by (cell_weight (is_one packet.number)) core.cells c (Full packet) at, cell_weight-full (is_one packet.number) packet, is_one-at packet.number packet refl)
 
-pub lane_counts : (core : Core) (i : ℕ) (lane : LaneState) (packet : Packet) → slice_get core.lanes i ≡ Some lane → first_packet lane.queue ≡ Some packet → 1 ≤ weigh (is_one packet.number) core
+pub lane_counts : (core : Core) (i : ℕ) (lane : LaneState) (packet : Packet) → slice_get core.lanes i ≡ Some lane → first_filled lane.queue ≡ Some packet → 1 ≤ weigh (is_one packet.number) core
 lane_counts core i lane packet at first =
     omega (arith, weigh_is (is_one packet.number) core, at-le-sum_by (lane_weight (is_one packet.number)) core.lanes i lane at, lane_weight-taken (is_one packet.number) lane packet first, is_one-at packet.number packet refl)
 
 pub seat_weight-held : (n turn : ℕ) (seat : SeatState) → turn_of n seat ≡ Some turn → 1 ≤ seat_weight (is_one n) seat
-seat_weight-held n turn seat held = omega (arith, seat_weight-letting_go (is_one n) seat n turn held, is_one-itself n turn)
+seat_weight-held n turn seat held = omega (arith, seat_weight-without_packet (is_one n) seat n turn held, is_one-itself n turn)
 
 pub seat_counts : (core : Core) (s n turn : ℕ) (seat : SeatState) → slice_get core.seats s ≡ Some seat → turn_of n seat ≡ Some turn → 1 ≤ weigh (is_one n) core
 seat_counts core s n turn seat at held =
@@ -72,7 +72,7 @@ not_held_in_cell core stands c s packet seat at there =
       seat_weight-held packet.number turn seat held,
     ))
 
-pub not_held_in_lane : (core : Core) → StandsOnce core → (i s : ℕ) (lane : LaneState) (packet : Packet) (seat : SeatState) → slice_get core.lanes i ≡ Some lane → first_packet lane.queue ≡ Some packet → slice_get core.seats s ≡ Some seat → turn_of packet.number seat ≡ None
+pub not_held_in_lane : (core : Core) → StandsOnce core → (i s : ℕ) (lane : LaneState) (packet : Packet) (seat : SeatState) → slice_get core.lanes i ≡ Some lane → first_filled lane.queue ≡ Some packet → slice_get core.seats s ≡ Some seat → turn_of packet.number seat ≡ None
 not_held_in_lane core stands i s lane packet seat at first there =
     none_if (turn_of packet.number seat) (λ turn held.
     omega (
