@@ -1,12 +1,15 @@
 -- A configuration stays one when an allowed link or an app is added.
-use Rattle.std.proofs.Common.{Bool, List, None, Option, Some, [], ap, arith, cond, false, is_some, length, refl, subst, sym, true, ℕ, ◌&&◌, ◌+◌, ◌<◌, ◌||◌, ◌∙◌, ◌∷◌, ◌≡◌, ◌≤◌, nat_le}
+use Rattle.std.proofs.Common.{All, Bool, List, None, Option, Some, [], ap, arith, cond, false, is_some, length, refl, subst, sym, true, ℕ, ◌&&◌, ◌+◌, ◌<◌, ◌||◌, ◌∙◌, ◌∷◌, ◌≡◌, ◌≤◌, nat_le}
 use Rattle.std.proofs.lemmas.Bool.Decides.{nat_tests}
 use Rattle.std.proofs.lemmas.Cmp.{nat_list_eq_equiv}
-use Rattle.std.specs.BTreeMap.{is_at}
+use Rattle.std.proofs.lemmas.Map.Views.{All-values-insert_entry}
+use Rattle.std.specs.BTreeMap.{insert_entry, is_at}
+use Rattle.std.specs.Map.{values_of}
 use Rattle.std.specs.List.{list_any}
 use Rattle.std.specs.Ordering.{is_eq}
 use Rattle.std.specs.declared.cmp.Ordering.{Ordering}
 use Rattle.std.specs.declared.cmp.Ordering.TheVariants.{Equal, Greater, Less}
+use Rattle.sn_config.specs.ArgText.{IsArgOf}
 use Rattle.sn_config.proofs.Written.{first_false, second_false}
 use Rattle.sn_config.specs.Configs.{ConfigForm, IsConfig, app_at, first_fault, has_app, has_link, link_fault, shares_port}
 use Rattle.sn_config.specs.declared.app_spec.AppSpec.{AppSpec}
@@ -86,6 +89,7 @@ with_link_valid config links link h e more few =
     let room : length config.links < 512 = let r = c.room in grind (arith, nat_tests) in
     let source : (q : LinkSpec) → has_link links q ≡ true → Source config.links link q = λ q t. source_by (is_at (link_cmp link) q) config.links link q refl (sym (more q) ∙ t) in
     record {
+      args = h.args;
       few_apps = h.few_apps;
       few_links = omega arith;
       from = λ q t. app_by config link q (λ l. l.from) (both_first (has_app config link.from) (has_app config link.to) c.both) h.from (source q t);
@@ -98,10 +102,11 @@ some_cond true x o s t = s
 some_cond false x o s t = t
 
 -- a configuration with the apps that one was put among
-pub with_app_valid : (config : ConfigForm) (apps : List (List ℕ × AppSpec)) (name : List ℕ) (spec : AppSpec) → IsConfig config → ((q : List ℕ) → app_at apps q ≡ cond (is_at (name_cmp name) q) (Some spec) (app_at config.apps q)) → length apps ≤ 256 → IsConfig (record { apps = apps; links = config.links })
-with_app_valid config apps name spec h more few =
+pub with_app_valid : (config : ConfigForm) (apps : List (List ℕ × AppSpec)) (name : List ℕ) (spec : AppSpec) → IsConfig config → IsArgOf spec.class spec.arg → apps ≡ insert_entry name_cmp config.apps name spec → ((q : List ℕ) → app_at apps q ≡ cond (is_at (name_cmp name) q) (Some spec) (app_at config.apps q)) → length apps ≤ 256 → IsConfig (record { apps = apps; links = config.links })
+with_app_valid config apps name spec h one put more few =
     let stays : (q : List ℕ) → has_app config q ≡ true → is_some (app_at apps q) ≡ true = λ q t. ap is_some (more q) ∙ some_cond (is_at (name_cmp name) q) (Some spec) (app_at config.apps q) refl t in
     record {
+      args = subst (λ es. All (λ s. IsArgOf s.class s.arg) (values_of es)) (sym put) (All-values-insert_entry name_cmp name spec (λ s. IsArgOf s.class s.arg) config.apps h.args one);
       few_apps = few;
       few_links = h.few_links;
       from = λ l t. stays l.from (h.from l t);
