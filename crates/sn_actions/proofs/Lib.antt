@@ -1,10 +1,13 @@
+pub mod ActionNames
 pub mod Joined
 pub mod Looks
 pub mod Changing
 pub mod Coming
+pub mod Entries
 pub mod Exact
 pub mod Going
 pub mod Maps
 pub mod Once
+pub mod PortKeys
 pub mod Taken
 pub mod Law

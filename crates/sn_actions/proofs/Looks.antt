@@ -4,9 +4,10 @@ use Rattle.std.specs.FinSet as finset
 use Rattle.std.proofs.Common.{Bool, List, None, Option, Some, ap, cond, false, is_some, not, refl, subst, sym, true, ℕ, ◌&&◌, ◌∙◌, ◌≡◌, ◌||◌}
 use Rattle.std.proofs.lemmas.Cmp.{tied_itself}
 use Rattle.std.specs.Ordering.{eq_by_cmp, is_eq}
+use Rattle.sn_actions.proofs.Entries.{no_value}
 use Rattle.sn_actions.proofs.Maps.{equal_from}
 use Rattle.sn_actions.specs.PlainForms.{PlainForm}
-use Rattle.sn_actions.specs.Plains.{in_port, is_link, out_port, without_app}
+use Rattle.sn_actions.specs.Plains.{in_port, is_at_some, is_link, out_port, without_app}
 use Rattle.sn_config.specs.Configs.{same_name}
 use Rattle.sn_config.specs.declared.app_spec.AppSpec.{AppSpec}
 use Rattle.sn_names.specs.LinkOrder.{exact_links, exact_names, exact_ports, link_cmp, link_cmp_total, name_cmp, name_cmp_total, port_cmp, port_cmp_total}
@@ -162,17 +163,13 @@ module _ (port : LinkSpec → List ℕ × List ℕ) where
   pub port_free : (ports : finmap.FinMap port_cmp LinkSpec) (there : LinkSpec → Bool) (l : LinkSpec) → PortsHold ports port there → ((m : LinkSpec) → there m ≡ true → port m ≡ port l → ⊥) → finmap.contains_key ports (port l) ≡ false
   port_free ports there l h free = free_by (finmap.get ports (port l)) ports there l h free refl
 
-  some_by : (o : Option LinkSpec) (ports : finmap.FinMap port_cmp LinkSpec) (there : LinkSpec → Bool) (l : LinkSpec) → PortsHold ports port there → there l ≡ false → finmap.get ports (port l) ≡ o → is_link o l ≡ false
-  some_by None ports there l h n e = refl
-  some_by (Some m) ports there l h n e = other (is_this m l) refl
-    where
-      other : (b : Bool) → is_this m l ≡ b → b ≡ false
-      other true t = let u : there l ≡ true = subst (λ x. there x ≡ true) (this_is m l t) (h.only (port l) m e) in cc
-      other false t = refl
+  other_by : (b : Bool) (there : LinkSpec → Bool) (l m : LinkSpec) → is_this m l ≡ b → there l ≡ false → there m ≡ true → b ≡ false
+  other_by true there l m e n t = let u : there l ≡ true = subst (λ x. there x ≡ true) (this_is m l e) t in cc
+  other_by false there l m e n t = refl
 
-  -- a link that isn't at its port isn't what is there
-  pub not_at_port : (ports : finmap.FinMap port_cmp LinkSpec) (there : LinkSpec → Bool) (l : LinkSpec) → PortsHold ports port there → there l ≡ false → is_link (finmap.get ports (port l)) l ≡ false
-  not_at_port ports there l h n = some_by (finmap.get ports (port l)) ports there l h n refl
+  -- a link that isn't there is at no port
+  pub at_no_port : (ports : finmap.FinMap port_cmp LinkSpec) (there : LinkSpec → Bool) (l : LinkSpec) → PortsHold ports port there → there l ≡ false → is_at_some ports l ≡ false
+  at_no_port ports there l h n = no_value port_cmp_total ports (λ m. is_this m l) (λ k m g. other_by (is_this m l) there l m refl n (h.only k m g))
 
   pub at_its_port : (ports : finmap.FinMap port_cmp LinkSpec) (there : LinkSpec → Bool) (l : LinkSpec) → PortsHold ports port there → there l ≡ true → is_link (finmap.get ports (port l)) l ≡ true
   at_its_port ports there l h t = ap (λ o. is_link o l) (h.of l t) ∙ this_self l

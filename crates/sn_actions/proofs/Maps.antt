@@ -18,7 +18,7 @@ equal_from Equal h = refl
 equal_from Greater h = cc
 
 module _ {K X : Type 0} {R : K → K → Ordering} (o : IsTotalOrder R) where
-  find_lookup : (es : List (K × X)) (q : K) → finmap.find R q es ≡ lookup (is_at (R q)) es
+  pub find_lookup : (es : List (K × X)) (q : K) → finmap.find R q es ≡ lookup (is_at (R q)) es
   find_lookup [] q = refl
   find_lookup (e ∷ es) q = ap (cond (is_at (R q) e.0) (Some e.1)) (find_lookup es q)
 

@@ -2,10 +2,10 @@
 use Rattle.std.specs.FinMap as finmap
 use Rattle.std.specs.FinSet as finset
 use Rattle.std.proofs.Common.{Bool, Err, List, None, Ok, Result, Some, [], ap, cond, false, is_some, not, refl, sym, true, ℕ, ◌&&◌, ◌++◌, ◌∙◌, ◌∷◌, ◌≡◌, ◌||◌}
-use Rattle.sn_actions.proofs.Looks.{Holds, Look, PortsHold, at_its_port, is_named, is_this, not_at_port, port_free, ports_added, ports_dropped, ports_removed, this_self}
+use Rattle.sn_actions.proofs.Looks.{Holds, Look, PortsHold, at_its_port, is_named, at_no_port, is_this, port_free, ports_added, ports_dropped, ports_removed, this_self}
 use Rattle.sn_actions.specs.Diffs.{unlinking}
 use Rattle.sn_actions.specs.PlainForms.{PlainForm}
-use Rattle.sn_actions.specs.Plains.{apply, apply_all, in_port, is_link, out_port, reconfigured, without_app}
+use Rattle.sn_actions.specs.Plains.{apply, apply_all, in_port, is_at_some, out_port, reconfigured, without_app}
 use Rattle.sn_actions.specs.Same.{same_class}
 use Rattle.sn_actions.specs.declared.action.Action.{Action}
 use Rattle.sn_actions.specs.declared.action.Action.TheVariants.{FreeLink, LinkInput, LinkOutput, NewLink, ReconfigApp, StartApp, StopApp, UnlinkInput, UnlinkOutput}
@@ -60,8 +60,8 @@ unlink_input p s l h t =
 pub free_link : (p : PlainForm) (s : Look) (l : LinkSpec) → Holds p s → s.links l ≡ true → s.outs l ≡ false → s.ins l ≡ false → Taken (FreeLink l ∷ []) p (record s { links = λ m. not (is_this m l) && s.links m })
 free_link p s l h t u v =
     let q : PlainForm = record p { links = finset.remove p.links l } in
-    let held : Bool = is_link (finmap.get p.outs (out_port l)) l || is_link (finmap.get p.ins (in_port l)) l in
-    let left : held ≡ false = ap (λ b. b || is_link (finmap.get p.ins (in_port l)) l) (not_at_port out_port p.outs s.outs l h.outs u) ∙ not_at_port in_port p.ins s.ins l h.ins v in
+    let held : Bool = is_at_some p.outs l || is_at_some p.ins l in
+    let left : held ≡ false = ap (λ b. b || is_at_some p.ins l) (at_no_port out_port p.outs s.outs l h.outs u) ∙ at_no_port in_port p.ins s.ins l h.ins v in
     one (FreeLink l) p q _ (ap (λ b. cond b (cond held (Err StillLinked) (Ok q)) (Err NoLink)) (h.links l ∙ t) ∙ ap (λ b. cond b (Err StillLinked) (Ok q)) left)
     (record { apps = h.apps; links = λ m. finset.contains-remove link_cmp_total p.links l m ∙ ap (λ b. not (is_this m l) && b) (h.links m); outs = h.outs; ins = h.ins })
 
