@@ -14,7 +14,7 @@ use Rattle.sn_scenario.specs.Leaves.{named, number_in, numbered, worker_in}
 use Rattle.sn_scenario.specs.Results.{fault_if, needed, one_token, three_tokens, two_tokens, ◌>>=◌}
 use Rattle.sn_scenario.specs.Scenarios.{AreLanes, ArePlaced, AreStops, IsLane, IsPlaced, IsStop, IsWithin}
 use Rattle.sn_scenario.specs.SettingLines.{journal_line, number_line, setting_line, settings_of}
-use Rattle.sn_scenario.specs.StopLines.{has_stop, stop_line, with_stop}
+use Rattle.sn_scenario.specs.StopLines.{has_stop, same_stop, stop_line, with_stop}
 use Rattle.sn_scenario.specs.declared.kind.Setting.{Setting}
 use Rattle.sn_scenario.specs.declared.kind.Setting.TheVariants as setting
 use Rattle.sn_scenario.specs.declared.lane.Lane.{Lane}
@@ -99,19 +99,40 @@ lanes_keep workers lanes lane h one new room =
       once = all_pairs_push (λ a b. a.name ≢ b.name) lanes lane h.once (λ k d within e. both_ways (bytes_eq (get_or lanes k d).name lane.name) (others k d within) ((bytes_eq-Decides (get_or lanes k d).name lane.name).1 e));
     }
 
-pub lane_line_keeps : (workers : ℕ) (lanes : List Lane) (tokens : List (List ℕ)) → 1 ≤ workers → AreLanes workers lanes → IfOk (lane_line workers lanes tokens) (AreLanes workers)
+-- the interlinks with the one of a line
+pub record HasNextLane (workers : ℕ) (old new : List Lane) : Type 0 where
+  pub lane : Lane
+  pub added : new ≡ old ++ lane ∷ []
+  pub keep : AreLanes workers new
+
+pub lane_line_keeps : (workers : ℕ) (lanes : List Lane) (tokens : List (List ℕ)) → 1 ≤ workers → AreLanes workers lanes → IfOk (lane_line workers lanes tokens) (HasNextLane workers lanes)
 unfolding lane_line
 lane_line_keeps workers lanes tokens some h =
-    any_ok (AreLanes workers) (three_tokens tokens) _ (λ token. any_ok (AreLanes workers) (named token.0) _ (λ name. then_ok (λ n. n < workers) (AreLanes workers) (worker_in workers token.1) _ (worker_below workers token.1 some) (λ tx t. then_ok (λ n. n < workers) (AreLanes workers) (worker_in workers token.2) _ (worker_below workers token.2 some) (λ rx r.
-    unless (AreLanes workers) (tx == rx) fault.Worker _ (λ differ. unless (AreLanes workers) (has_lane name lanes) fault.Twice _ (λ new. unless (AreLanes workers) (nat_le 16 (length lanes)) fault.TooMany _ (λ room.
-    lanes_keep workers lanes (record { name = name; tx = tx; rx = rx }) h (record { tx = t; rx = r; apart = eqb-false tx rx differ }) new room)))))))
+    let P = HasNextLane workers lanes in
+    any_ok P (three_tokens tokens) _ (λ token. any_ok P (named token.0) _ (λ name. then_ok (λ n. n < workers) P (worker_in workers token.1) _ (worker_below workers token.1 some) (λ tx t. then_ok (λ n. n < workers) P (worker_in workers token.2) _ (worker_below workers token.2 some) (λ rx r.
+    unless P (tx == rx) fault.Worker _ (λ differ. unless P (has_lane name lanes) fault.Twice _ (λ new. unless P (nat_le 16 (length lanes)) fault.TooMany _ (λ room.
+    record { lane = record { name = name; tx = tx; rx = rx }; added = refl; keep = lanes_keep workers lanes (record { name = name; tx = tx; rx = rx }) h (record { tx = t; rx = r; apart = eqb-false tx rx differ }) new room })))))))
 
 -- stops
+same_as_itself : (stop : StopLine) → same_stop stop stop ≡ true
+same_as_itself stop = all_three (stop.worker == stop.worker) (stop.entries == stop.entries) (stop.gates == stop.gates) (eq-eqb stop.worker stop.worker refl) (eq-eqb stop.entries stop.entries refl) (eq-eqb stop.gates stop.gates refl)
+  where
+    all_three : (a b c : Bool) → a ≡ true → b ≡ true → c ≡ true → (a && b && c) ≡ true
+    all_three true true true x y z = refl
+    all_three true true false x y z = z
+    all_three true false c x y z = cc
+    all_three false b c x y z = cc
+
 stops_keep : (workers : ℕ) (stops : List StopLine) (stop : StopLine) → AreStops workers stops → IsStop workers stop → IfOk (with_stop stops stop) (AreStops workers)
 stops_keep workers stops stop h one =
     unless (AreStops workers) (has_stop stop stops) fault.Twice _ (λ new. unless (AreStops workers) (nat_le 1000 (length stops)) fault.TooMany _ (λ room.
     let few : length stops < 1000 = leb-false 1000 (length stops) room in
-    record { few = omega (arith, length-append stops (stop ∷ [])); each = All-push (IsStop workers) stops stop h.each one }))
+    let others = none_passes (λ other. same_stop other stop) stops new in
+    record {
+      few = omega (arith, length-append stops (stop ∷ []));
+      each = All-push (IsStop workers) stops stop h.each one;
+      once = all_pairs_push (λ a b. a ≢ b) stops stop h.once (λ k d within e. both_ways (same_stop (get_or stops k d) stop) (others k d within) (subst (λ s. same_stop s stop ≡ true) (sym e) (same_as_itself stop)));
+    }))
 
 pub stop_line_keeps : (workers : ℕ) (stops : List StopLine) (tokens : List (List ℕ)) → 1 ≤ workers → AreStops workers stops → IfOk (stop_line workers stops tokens) (AreStops workers)
 unfolding stop_line
@@ -125,12 +146,16 @@ pub record IsNext (workers : ℕ) (placed : List Placed) (next : Placed) : Type 
   pub later : has_later next.worker next.round placed ≡ false
   pub room : nat_le 64 (count_by (of_worker next.worker) placed) ≡ false
 
-pub config_line_gives : (workers : ℕ) (placed : List Placed) (tokens : List (List ℕ)) → 1 ≤ workers → IfOk (config_line workers placed tokens) (IsNext workers placed)
+pub record IsNew (workers : ℕ) (placed : List Placed) (new : Placed) : Type 0 where
+  pub next : IsNext workers placed new
+  pub empty : new.config.apps ≡ []
+
+pub config_line_gives : (workers : ℕ) (placed : List Placed) (tokens : List (List ℕ)) → 1 ≤ workers → IfOk (config_line workers placed tokens) (IsNew workers placed)
 unfolding config_line
 config_line_gives workers placed tokens some =
-    any_ok (IsNext workers placed) (two_tokens tokens) _ (λ token. then_ok (λ n. n < workers) (IsNext workers placed) (worker_in workers token.0) _ (worker_below workers token.0 some) (λ worker w. then_ok (IsWithin 0 100000) (IsNext workers placed) (numbered 0 100000 token.1) _ (numbered_within 0 100000 token.1) (λ round r.
-    unless (IsNext workers placed) (has_later worker round placed) fault.Order _ (λ later. unless (IsNext workers placed) (nat_le 64 (count_by (of_worker worker) placed)) fault.TooMany _ (λ room.
-    record { place = record { worker = w; round = r.1 }; later = later; room = room })))))
+    any_ok (IsNew workers placed) (two_tokens tokens) _ (λ token. then_ok (λ n. n < workers) (IsNew workers placed) (worker_in workers token.0) _ (worker_below workers token.0 some) (λ worker w. then_ok (IsWithin 0 100000) (IsNew workers placed) (numbered 0 100000 token.1) _ (numbered_within 0 100000 token.1) (λ round r.
+    unless (IsNew workers placed) (has_later worker round placed) fault.Order _ (λ later. unless (IsNew workers placed) (nat_le 64 (count_by (of_worker worker) placed)) fault.TooMany _ (λ room.
+    record { next = record { place = record { worker = w; round = r.1 }; later = later; room = room }; empty = refl })))))
 
 -- a worker's round that isn't this one or a later one is an earlier one
 earlier : (a b : Placed) → (a.worker == b.worker && nat_le b.round a.round) ≡ false → a.worker ≡ b.worker → a.round < b.round

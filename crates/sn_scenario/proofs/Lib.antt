@@ -1,10 +1,15 @@
 pub mod Adding
+pub mod AppUses
 pub mod Bounding
+pub mod DueCounts
 pub mod Filing
 pub mod Fronts
+pub mod KeySets
 pub mod Keeping
 pub mod Leaving
 pub mod Lining
+pub mod PlanLaws
 pub mod Planning
+pub mod RosterNames
 pub mod Running
 pub mod Spelling

@@ -22,7 +22,7 @@ pub kept_skip : (p : Placed → Bool) (xs : List Placed) (i : ℕ) (x : Placed) 
 kept_skip p xs i x within is left =
     ap (filter p) (next_cut xs i x within is) ∙ ap (kept_by x (filter p (drop (i + 1) xs))) left
 
-plan-cons : (before : ConfigForm) (x : Placed) (more : List Placed) → plan_after before (x ∷ more) ≡ change_of before x.config ++ plan_after x.config more
+pub plan-cons : (before : ConfigForm) (x : Placed) (more : List Placed) → plan_after before (x ∷ more) ≡ change_of before x.config ++ plan_after x.config more
 unfolding plan_after
 plan-cons before x more = refl
 

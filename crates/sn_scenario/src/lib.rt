@@ -2,6 +2,7 @@
 #![tactic(auto)]
 
 mod app_line;
+mod counts;
 mod cutting;
 mod draft;
 mod ends;

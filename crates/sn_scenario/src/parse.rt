@@ -7,6 +7,7 @@ ghost use Rattle.sn_scenario.specs.Scenarios.{IsBounded};
 ghost use Rattle.sn_scenario.specs.ScenarioText.{finish, form_of, lines_from, scenario_of};
 ghost use Rattle.std.specs.Prelude.{IfOk, Ok, length, map, ◌≡◌, ◌≤◌};
 
+use crate::counts::counts_of;
 use crate::cutting::{split_line, without_return};
 use crate::draft::{Draft, begin, read_line};
 use crate::fault::LineFault;
@@ -95,6 +96,7 @@ fn whole(alloc: Global, draft: Draft) -> Result<Scenario, LineFault>
     let Files { captures, outputs } = files;
     let captures = captures_of(alloc, captures)?;
     let outputs = outputs_of(alloc, outputs)?;
+    let counts = counts_of(alloc, &placed)?;
     Ok(Scenario {
         settings,
         lanes,
@@ -103,6 +105,7 @@ fn whole(alloc: Global, draft: Draft) -> Result<Scenario, LineFault>
         stops,
         captures,
         outputs,
+        counts,
     })
 }
 
