@@ -1,5 +1,5 @@
 -- What the actions between two configurations name, and how many there are at most.
-use Rattle.std.proofs.Common.{All, Bool, Contains, List, None, Option, Some, [], ap, arith, cond, false, get_or, is_some, length, length-append, map, not, refl, subst, suc, sym, true, ℕ, ◌*◌, ◌+◌, ◌++◌, ◌<◌, ◌∙◌, ◌∷◌, ◌≡◌, ◌≤◌}
+use Rattle.std.proofs.Common.{All, Bool, Contains, List, None, Option, Some, [], ap, arith, cond, false, get_or, is_some, length, length-append, map, not, refl, subst, suc, sym, true, ℕ, ◌*◌, ◌++◌, ◌∙◌, ◌∷◌, ◌≡◌, ◌≤◌}
 use Rattle.std.proofs.lemmas.List.Concat.{flat_map-cons}
 use Rattle.std.proofs.lemmas.List.Elements.{All-append, All-contains_itself, All-from_recursion, All-map, All-nil, All-weaker, recursion_from_All}
 use Rattle.std.proofs.lemmas.Map.Entries.{length-keys_of, lookup_from_place}
@@ -11,11 +11,11 @@ use Rattle.std.specs.List.{AllByRecursion}
 use Rattle.std.specs.List.Sorted.{IsStrictlySortedBy}
 use Rattle.std.specs.Map.{keys_of}
 use Rattle.std.specs.Prelude.{filter, flat_map}
-use Rattle.sn_actions.proofs.Once.{some_named}
+use Rattle.sn_actions.proofs.Uniqueness.{some_named}
 use Rattle.sn_actions.specs.Diffs.{IsChange, change, diff_of, is_started, link_change, linking, relinking, removed_apps, removed_links, unlinking}
 use Rattle.sn_actions.specs.Same.{same_arg, same_class}
 use Rattle.sn_actions.specs.declared.action.Action.{Action}
-use Rattle.sn_actions.specs.declared.action.Action.TheVariants.{LinkInput, LinkOutput, ReconfigApp, StartApp, StopApp}
+use Rattle.sn_actions.specs.declared.action.Action.TheVariants.{ReconfigApp, StartApp, StopApp}
 use Rattle.sn_config.specs.Configs.{ConfigForm, IsConfig, app_at, has_app, has_link}
 use Rattle.sn_config.specs.declared.app_spec.AppSpec.{AppSpec}
 use Rattle.sn_names.specs.LinkOrder.{link_cmp_total, name_cmp, name_cmp_total}

@@ -2,17 +2,15 @@
 use Rattle.std.specs.FinMap as finmap
 use Rattle.std.proofs.Common.{Bool, List, None, Option, Some, [], ap, cond, false, map, not, refl, sym, true, ℕ, ◌&&◌, ◌∙◌, ◌∷◌, ◌≡◌, ◌||◌}
 use Rattle.std.specs.BTreeMap.{is_at}
-use Rattle.std.specs.Cmp.Rules.{comparing}
-use Rattle.std.proofs.Common.{rules}
 use Rattle.std.specs.List.{list_any}
 use Rattle.std.specs.List.Sorted.{IsStrictlySortedBy}
 use Rattle.std.specs.Map.{keys_of, lookup}
 use Rattle.std.specs.Ordering.{eq_by_cmp, is_eq, ordering_then}
 use Rattle.std.specs.declared.cmp.Ordering.{Ordering}
 use Rattle.std.specs.declared.cmp.Ordering.TheVariants.{Equal, Greater, Less}
-use Rattle.sn_actions.proofs.Entries.{entries_same}
-use Rattle.sn_actions.proofs.Maps.{get_entries}
-use Rattle.sn_actions.proofs.Once.{same_named}
+use Rattle.sn_actions.proofs.MapEntries.{entries_same}
+use Rattle.sn_actions.proofs.FiniteMaps.{get_entries}
+use Rattle.sn_actions.proofs.Uniqueness.{same_named}
 use Rattle.sn_actions.specs.Plains.{is_at_some}
 use Rattle.sn_config.specs.Configs.{same_name}
 use Rattle.sn_names.specs.LinkOrder.{link_cmp, name_cmp, name_cmp_total, port_cmp, port_cmp_total}

@@ -1,14 +1,15 @@
 //! The plain form of a network, and what each action does to it.
+ghost use Rattle.sn_actions.specs.PlainForms.{empty_form};
 ghost use Rattle.sn_actions.specs.PlainOf.{plain_of};
 ghost use Rattle.sn_actions.specs.Plains.{apply};
 ghost use Rattle.sn_actions.specs.declared.action.Action.TheVariants.{FreeLink, LinkInput, LinkOutput, NewLink, ReconfigApp, StartApp, StopApp, UnlinkInput, UnlinkOutput};
 ghost use Rattle.sn_actions.specs.declared.fault.ActionFault.TheVariants.{OutOfMemory};
-ghost use Rattle.std.specs.FinMap as finmap;
-ghost use Rattle.std.specs.FinSet as finset;
 ghost use Rattle.std.specs.Prelude.{Err, IfErr, IsOk, Ok, OnErr, OnOk, ◌≡◌, ◌≢◌};
 
 use crate::kept::{has_app, has_link, put_app, put_link, same_class_there, take_app, take_link};
-use crate::ports::{drop_ports, has_port, is_at_port, is_at_some_port, port_key, put_port, take_port};
+use crate::ports::{
+    drop_ports, has_port, is_at_port, is_at_some_port, port_key, put_port, take_port,
+};
 use crate::{Action, ActionFault};
 use sn_config::AppSpec;
 use sn_names::{LinkSpec, Name};
@@ -33,7 +34,7 @@ pub struct Plain {
 impl Plain {
     /// The empty plain form.
     pub fn new(alloc: Global) -> Plain
-        ensures { plain_of result ≡ record { apps = finmap.empty; links = finset.empty; outs = finmap.empty; ins = finmap.empty } }
+        ensures { plain_of result ≡ empty_form }
     {
         Plain {
             apps: BTreeMap::new(alloc),

@@ -14,9 +14,9 @@ use std::alloc::{AllocError, Global};
 use std::collections::{BTreeMap, BTreeSet};
 use std::marker::Model;
 
-/// The most apps of a configuration.
+/// The most apps of a configuration: a bound that the scenario format sets.
 const MOST_APPS: usize = 256;
-/// The most links of a configuration.
+/// The most links of a configuration: a bound that the scenario format sets.
 const MOST_LINKS: usize = 512;
 
 /// Which apps there are, with their classes and arguments, and the links between them. At most 256

@@ -1,17 +1,16 @@
 -- What apps use stays the scenario's as lines are read, and what is used once stays so.
-use Rattle.std.proofs.Common.{All, Bool, Contains, List, None, Option, Some, [], ap, arith, cond, count_by, false, get_or, length, map, not, refl, subst, suc, sym, true, ℕ, ◌&&◌, ◌+◌, ◌++◌, ◌<◌, ◌==◌, ◌∙◌, ◌∷◌, ◌≡◌, ◌≤◌, ◌||◌}
-use Rattle.std.proofs.lemmas.Bool.{and_parts, both_ways, eqb-true, or_parts}
+use Rattle.std.proofs.Common.{All, Bool, List, None, Option, Some, [], ap, arith, cond, count_by, false, not, refl, subst, suc, sym, true, ℕ, ◌&&◌, ◌+◌, ◌++◌, ◌==◌, ◌∙◌, ◌∷◌, ◌≡◌, ◌≤◌, ◌||◌}
+use Rattle.std.proofs.lemmas.Bool.{eqb-true, or_parts}
 use Rattle.std.proofs.lemmas.Cmp.{tied_itself}
 use Rattle.std.proofs.lemmas.List.Elements.{All-contains, All-nil}
 use Rattle.std.proofs.lemmas.List.Folds.{list_any-append}
 use Rattle.std.proofs.lemmas.List.Sums.{sum_by-cons}
-use Rattle.std.proofs.lemmas.Map.Views.{All-values-insert_entry, Contains-from_any}
+use Rattle.std.proofs.lemmas.Map.Views.{All-values-insert_entry}
 use Rattle.std.proofs.lemmas.Slice.Eq.{bytes_eq-Decides}
 use Rattle.std.specs.BTreeMap.{insert_entry, is_at}
-use Rattle.std.specs.BTreeSet.{insert_key}
 use Rattle.std.specs.List.{list_any}
 use Rattle.std.specs.Map.{keys_of, lookup, values_of}
-use Rattle.std.specs.Ordering.{is_eq, match_ordering}
+use Rattle.std.specs.Ordering.{match_ordering}
 use Rattle.std.specs.Str.{bytes_eq}
 use Rattle.std.specs.declared.cmp.Ordering.{Ordering}
 use Rattle.std.specs.declared.cmp.Ordering.TheVariants.{Equal, Greater, Less}
@@ -23,8 +22,8 @@ use Rattle.sn_names.specs.declared.class.Class.{Class}
 use Rattle.sn_names.specs.declared.class.Class.TheVariants as class
 use Rattle.sn_scenario.proofs.KeySets.{equal_eq, has_key, key_added, key_itself, key_stays, key_there}
 use Rattle.sn_scenario.specs.AppUses.{EachUsed, UsedOnce, reads_file, receives_lane, transmits_lane, writes_file}
-use Rattle.sn_scenario.specs.FileUses.{FilesForm, file_fault, file_named, has_writer, is_capture, is_named, is_others, output_of, reader_fault, with_file, writer_fault}
-use Rattle.sn_scenario.specs.LaneEnds.{end_fault, has_receiver, has_transmitter, lane_named, leads_from, leads_to}
+use Rattle.sn_scenario.specs.FileUses.{FilesForm, file_fault, has_writer, is_capture, is_named, is_others, output_of, with_file}
+use Rattle.sn_scenario.specs.LaneEnds.{end_fault, has_receiver, has_transmitter, leads_from, leads_to}
 use Rattle.sn_scenario.specs.Scenarios.{HaveOneWriter, IsServed}
 use Rattle.sn_scenario.specs.declared.lane.Lane.{Lane}
 use Rattle.sn_scenario.specs.declared.placed.Placed.{Placed}

@@ -1,10 +1,10 @@
 -- What is due is the sum of the numbers of the worker's configurations that are due.
-use Rattle.std.proofs.Common.{Bool, List, [], add-one, ap, arith, cond, count_by, drop, false, filter, fold, get_or, length, nat_le, refl, subst, sym, take, true, ℕ, ◌&&◌, ◌*◌, ◌+◌, ◌++◌, ◌<◌, ◌==◌, ◌∙◌, ◌∷◌, ◌≡◌, ◌≤◌}
+use Rattle.std.proofs.Common.{Bool, List, [], ap, arith, cond, count_by, drop, false, filter, get_or, length, nat_le, refl, sym, take, true, ℕ, ◌&&◌, ◌*◌, ◌+◌, ◌<◌, ◌∙◌, ◌∷◌, ◌≡◌, ◌≤◌}
 use Rattle.std.proofs.lemmas.Bool.{eqb-true}
 use Rattle.std.proofs.lemmas.List.{take_more}
 use Rattle.std.proofs.lemmas.List.Sums.{fold-append, sum_by-cons}
 use Rattle.sn_config.specs.Configs.{ConfigForm}
-use Rattle.sn_scenario.proofs.Planning.{due_end, due_skip, due_turn, next_cut}
+use Rattle.sn_scenario.proofs.PlanSteps.{due_end, due_skip, due_turn, next_cut}
 use Rattle.sn_scenario.specs.ConfigLines.{no_config, of_worker}
 use Rattle.sn_scenario.specs.PlanLaws.{count_at, last_config}
 use Rattle.sn_scenario.specs.Plans.{change_of, due_after}

@@ -1,5 +1,5 @@
 -- What is among keys stays there with one key more, and so does that key.
-use Rattle.std.proofs.Common.{Bool, Contains, List, [], ap, cond, false, fold, refl, true, ◌∙◌, ◌∷◌, ◌≡◌, ◌||◌}
+use Rattle.std.proofs.Common.{Bool, Contains, List, [], ap, false, fold, refl, true, ◌∙◌, ◌∷◌, ◌≡◌, ◌||◌}
 use Rattle.std.proofs.lemmas.Cmp.{tied_itself}
 use Rattle.std.proofs.lemmas.Map.Lookups.{CmpEqualImpliesEq}
 use Rattle.std.proofs.lemmas.Map.Views.{Contains-from_any}

@@ -1,5 +1,5 @@
 -- A plan's actions are taken from the empty form, and each commit ends a configuration of its worker.
-use Rattle.std.proofs.Common.{All, Bool, Err, List, Ok, Result, [], ap, append_assoc, arith, cond, count_by, drop, false, filter, get_or, length, refl, subst, suc, sym, take, true, zero, ℕ, ◌+◌, ◌++◌, ◌<◌, ◌∙◌, ◌∷◌, ◌≡◌, ◌≤◌, ◌||◌}
+use Rattle.std.proofs.Common.{Bool, Err, List, Ok, Result, [], ap, append_assoc, arith, cond, count_by, drop, false, filter, get_or, length, refl, subst, suc, sym, take, true, zero, ℕ, ◌+◌, ◌++◌, ◌<◌, ◌∙◌, ◌∷◌, ◌≡◌, ◌≤◌, ◌||◌}
 use Rattle.std.proofs.lemmas.Bool.{or_parts}
 use Rattle.std.proofs.lemmas.List.Elements.{recursion_from_All}
 use Rattle.std.proofs.lemmas.List.Folds.{list_any-append}
@@ -10,12 +10,12 @@ use Rattle.sn_actions.specs.Diffs.{IsChange, diff_of}
 use Rattle.sn_actions.specs.PlainForms.{PlainForm}
 use Rattle.sn_actions.specs.Plains.{apply, apply_all, full}
 use Rattle.sn_actions.specs.declared.action.Action.{Action}
-use Rattle.sn_actions.specs.declared.action.Action.TheVariants.{Commit, FreeLink, LinkInput, LinkOutput, NewLink, ReconfigApp, StartApp, StopApp, UnlinkInput, UnlinkOutput}
+use Rattle.sn_actions.specs.declared.action.Action.TheVariants.{Commit}
 use Rattle.sn_actions.specs.declared.fault.ActionFault.{ActionFault}
 use Rattle.sn_config.specs.Configs.{ConfigForm}
-use Rattle.sn_scenario.proofs.Planning.{kept_next, kept_skip, plan-cons, plan-nil}
+use Rattle.sn_scenario.proofs.PlanSteps.{kept_next, kept_skip, plan-cons, plan-nil}
 use Rattle.sn_scenario.specs.PlanLaws.{AreChanged, IsChanged, committed, config_after, is_commit}
-use Rattle.sn_scenario.specs.Plans.{change_of, plan_after}
+use Rattle.sn_scenario.specs.Plans.{plan_after}
 use Rattle.sn_scenario.specs.declared.placed.Placed.{Placed}
 
 -- none of the changes is a commit
@@ -118,8 +118,8 @@ all_taken before (x ∷ more) h =
     record {
       last = rest.last;
       taken = ap (λ acts. apply_all acts (full before)) (split_plan before x more)
-        ∙ apply_append (diff_of before x.config) (Commit ∷ plan_after x.config more) (full before) (full x.config) h.0.law
-        ∙ rest.taken;
+          ∙ apply_append (diff_of before x.config) (Commit ∷ plan_after x.config more) (full before) (full x.config) h.0.law
+          ∙ rest.taken;
     }
 
 pub plan_taken : (before : ConfigForm) (configs : List Placed) (n : ℕ) → AreChanged before configs → IsOk (apply_all (take n (plan_after before configs)) (full before))

@@ -1,5 +1,5 @@
 -- What the actions of a plan name stands in the roster of its worker.
-use Rattle.std.proofs.Common.{All, Bool, Contains, List, None, Option, Some, [], ap, arith, cond, false, filter, fold, is_some, map, refl, subst, suc, sym, true, ℕ, ◌&&◌, ◌++◌, ◌==◌, ◌∙◌, ◌∷◌, ◌≡◌, ◌||◌}
+use Rattle.std.proofs.Common.{All, Bool, Contains, List, Some, [], ap, arith, cond, false, filter, is_some, map, refl, subst, suc, sym, true, ℕ, ◌&&◌, ◌==◌, ◌∙◌, ◌∷◌, ◌≡◌, ◌||◌}
 use Rattle.std.proofs.lemmas.Bool.{and_parts}
 use Rattle.std.proofs.lemmas.List.Concat.{flat_map-cons}
 use Rattle.std.proofs.lemmas.List.Elements.{All-append, All-nil, All-push, recursion_from_All}
@@ -8,10 +8,9 @@ use Rattle.std.proofs.lemmas.Map.Made.{is_some-lookup}
 use Rattle.std.proofs.lemmas.Slice.Eq.{bytes_eq-Decides}
 use Rattle.std.specs.BTreeMap.{is_at}
 use Rattle.std.specs.List.{AllByRecursion, list_any}
-use Rattle.std.specs.Map.{keys_of, lookup, values_of}
+use Rattle.std.specs.Map.{keys_of, values_of}
 use Rattle.std.specs.Prelude.{flat_map}
 use Rattle.std.specs.Str.{bytes_eq}
-use Rattle.std.specs.declared.cmp.Ordering.{Ordering}
 use Rattle.sn_actions.specs.Diffs.{IsChange, diff_of}
 use Rattle.sn_actions.specs.declared.action.Action.{Action}
 use Rattle.sn_actions.specs.declared.action.Action.TheVariants.{Commit, FreeLink, LinkInput, LinkOutput, NewLink, ReconfigApp, StartApp, StopApp, UnlinkInput, UnlinkOutput}
@@ -22,12 +21,12 @@ use Rattle.sn_names.specs.LinkOrder.{exact_links, exact_names, link_cmp, link_cm
 use Rattle.sn_names.specs.Rosters.{RosterRows}
 use Rattle.sn_names.specs.declared.link.LinkSpec.{LinkSpec}
 use Rattle.sn_scenario.proofs.KeySets.{all_added, has_key, key_itself, key_there, or_first, or_second}
-use Rattle.sn_scenario.proofs.Planning.{plan-cons, plan-nil}
+use Rattle.sn_scenario.proofs.PlanSteps.{plan-cons, plan-nil}
 use Rattle.sn_scenario.specs.AppUses.{reads_file, receives_lane, transmits_lane, writes_file}
 use Rattle.sn_scenario.specs.ConfigLines.{no_config, of_worker}
 use Rattle.sn_scenario.specs.LaneEnds.{leads_from, leads_to}
-use Rattle.sn_scenario.specs.PlanLaws.{AreChanged, IsChanged, IsListed, IsListedApp}
-use Rattle.sn_scenario.specs.Plans.{all_links, app_names, change_of, configs_of, ordered, plan_after, roster_of}
+use Rattle.sn_scenario.specs.PlanLaws.{AreChanged, IsListed, IsListedApp}
+use Rattle.sn_scenario.specs.Plans.{all_links, app_names, change_of, configs_of, plan_after, roster_of}
 use Rattle.sn_scenario.specs.Scenarios.{IsServed, ScenarioForm}
 use Rattle.sn_scenario.specs.declared.lane.Lane.{Lane}
 use Rattle.sn_scenario.specs.declared.placed.Placed.{Placed}
@@ -118,9 +117,9 @@ module _ (worker : ℕ) (scenario : ScenarioForm) where
   all_covered : (before : ConfigForm) (xs : List Placed) → ((l : LinkSpec) → has_link (all_links xs) l ≡ true → has_link (all_links configs) l ≡ true) → ((n : List ℕ) → has_key name_cmp (app_names xs) n ≡ true → has_key name_cmp (app_names configs) n ≡ true) → AreChanged before xs → AllByRecursion (IsServed scenario.lanes scenario.captures scenario.outputs) xs → AllByRecursion (λ p. IsCovered rows p.config) xs
   all_covered before [] links names h s = tt
   all_covered before (x ∷ xs) links names h s = (
-      covered x (λ l t. links l (found_one (is_at (link_cmp l)) links_in x xs t)) (λ n t. names n (found_one (is_at (name_cmp n)) names_in x xs t)) h.0.valid.args s.0,
-      all_covered x.config xs (λ l t. links l (found_more (is_at (link_cmp l)) links_in x xs t)) (λ n t. names n (found_more (is_at (name_cmp n)) names_in x xs t)) h.1 s.1,
-    )
+    covered x (λ l t. links l (found_one (is_at (link_cmp l)) links_in x xs t)) (λ n t. names n (found_one (is_at (name_cmp n)) names_in x xs t)) h.0.valid.args s.0,
+    all_covered x.config xs (λ l t. links l (found_more (is_at (link_cmp l)) links_in x xs t)) (λ n t. names n (found_more (is_at (name_cmp n)) names_in x xs t)) h.1 s.1,
+  )
 
   kept_served : (p : Placed → Bool) (xs : List Placed) → AllByRecursion (IsServed scenario.lanes scenario.captures scenario.outputs) xs → AllByRecursion (IsServed scenario.lanes scenario.captures scenario.outputs) (filter p xs)
   kept_served p [] h = tt

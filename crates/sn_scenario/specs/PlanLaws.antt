@@ -1,10 +1,8 @@
 -- What holds of a worker's plan, and its plain form after a number of its actions.
-use Rattle.std.specs.FinMap as finmap
-use Rattle.std.specs.FinSet as finset
-use Rattle.std.specs.Prelude.{All, Bool, Contains, List, Ok, Result, [], cond, count_by, false, fold, get_or, length, suc, take, true, zero, ℕ, ◌<◌, ◌==◌, ◌∷◌, ◌≡◌, ◌||◌}
+use Rattle.std.specs.Prelude.{All, Bool, Contains, List, Ok, Result, [], cond, count_by, false, fold, get_or, length, suc, take, true, zero, ℕ, ◌<◌, ◌∷◌, ◌≡◌, ◌||◌}
 use Rattle.std.specs.List.{list_any}
 use Rattle.sn_actions.specs.Diffs.{IsChange, diff_of}
-use Rattle.sn_actions.specs.PlainForms.{PlainForm}
+use Rattle.sn_actions.specs.PlainForms.{PlainForm, empty_form}
 use Rattle.sn_actions.specs.Plains.{apply_all, full}
 use Rattle.sn_actions.specs.declared.action.Action.{Action}
 use Rattle.sn_actions.specs.declared.action.Action.TheVariants.{Commit, FreeLink, LinkInput, LinkOutput, NewLink, ReconfigApp, StartApp, StopApp, UnlinkInput, UnlinkOutput}
@@ -18,10 +16,6 @@ use Rattle.sn_scenario.specs.ConfigLines.{no_config, of_worker}
 use Rattle.sn_scenario.specs.Plans.{change_of, configs_of, plan_of}
 use Rattle.sn_scenario.specs.Scenarios.{ScenarioForm}
 use Rattle.sn_scenario.specs.declared.placed.Placed.{Placed}
-
--- the plain form of an empty network
-abbrev pub empty_form : PlainForm
-empty_form = record { apps = finmap.empty; links = finset.empty; outs = finmap.empty; ins = finmap.empty }
 
 abbrev pub is_commit : Action → Bool
 is_commit Commit = true

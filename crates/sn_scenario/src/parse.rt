@@ -17,6 +17,10 @@ use sn_names::FileName;
 use std::alloc::{AllocError, Global};
 use std::collections::{BTreeMap, BTreeSet};
 
+/// The most bytes of a scenario's text. Whoever reads one reads at most one byte more, and a line's
+/// number then fits any counter.
+pub const MOST_SCENARIO_BYTES: usize = 1_048_576;
+
 /// The fault of a line.
 fn at_line(line: u64, fault: LineFault) -> ParseFault
     ensures { result ≡ fault_at line fault }
@@ -28,7 +32,7 @@ fn at_line(line: u64, fault: LineFault) -> ParseFault
 }
 
 /// Reads all lines of a text. What comes is the number of the line after the last.
-#[tactic(auto, using(crate::proofs::Lining::lining))]
+#[tactic(auto, using(crate::proofs::LineSequence::lining))]
 fn read_lines(alloc: Global, draft: &mut Draft, text: &[u8]) -> Result<u64, ParseFault>
     ensures { ReadsAll (reading_of draft.new) result (lines_from 1 (lines_of text.now) (reading_of draft.old)) }
 {

@@ -1,8 +1,9 @@
 //! What a scenario has each worker do.
+ghost use Rattle.sn_actions.specs.PlainForms.{empty_form};
 ghost use Rattle.sn_actions.specs.Plains.{apply_all, full};
 ghost use Rattle.sn_config.specs.Configs.{IsConfig};
 ghost use Rattle.sn_scenario.specs.ConfigLines.{no_config, of_worker};
-ghost use Rattle.sn_scenario.specs.PlanLaws.{AreChanged, AreCounts, IsChanged, IsListed, committed_config, empty_form, prefix_of};
+ghost use Rattle.sn_scenario.specs.PlanLaws.{AreChanged, AreCounts, IsChanged, IsListed, committed_config, prefix_of};
 ghost use Rattle.sn_scenario.specs.Plans.{change_of, due_after, due_of, plan_after, plan_of, roster_of};
 ghost use Rattle.sn_scenario.specs.Scenarios.{ArePlaced};
 ghost use Rattle.std.specs.Prelude.{All, IfOk, IsOk, Ok, OnOk, cond, count_by, filter, nat_le, take, ℕ, ◌&&◌, ◌++◌, ◌<◌, ◌≡◌, ◌≤◌};

@@ -1,8 +1,8 @@
 use Rattle.std.proofs.Common.{All, List, ap, arith, length, subst, sym, ◌∙◌}
 use Rattle.std.specs.Map.{keys_of}
 use Rattle.sn_actions.proofs.ActionNames.{all_changes, few_changes}
-use Rattle.sn_actions.proofs.Law.{leads_to}
-use Rattle.sn_actions.proofs.Once.{apps_once, links_once, names_once}
+use Rattle.sn_actions.proofs.DiffLaw.{leads_to}
+use Rattle.sn_actions.proofs.Uniqueness.{apps_once, links_once, names_once}
 use Rattle.sn_actions.specs.Diffs.{IsChange}
 use Rattle.sn_actions.specs.declared.action.Action.{Action}
 use Rattle.sn_actions.specs.Plains.{apply_all, full}

@@ -1,6 +1,5 @@
-use Rattle.std.proofs.Common.{ap, arith, cond, get_or, length, nat_le, ℕ, ◌&&◌, ◌+◌, ◌∙◌, ◌≡◌}
+use Rattle.std.proofs.Common.{arith, get_or, ℕ, ◌≡◌}
 use Rattle.sn_scenario.proofs.DueCounts.{due_fits, due_last, due_next}
-use Rattle.sn_scenario.specs.ConfigLines.{of_worker}
 use Rattle.sn_scenario.specs.PlanLaws.{AreCounts, count_at}
 use Rattle.sn_scenario.proofs.plan.due_from.Goals as goal
 

@@ -1,5 +1,5 @@
 -- What is due so far with what is due of the configurations that are left is what is due of all; it fits.
-use Rattle.std.proofs.Common.{count_by, drop, filter, take, ◌*◌, ◌+◌, ◌^◌, ◌≡◌, ◌≤◌}
+use Rattle.std.proofs.Common.{count_by, drop, filter, take, ◌*◌, ◌+◌, ◌≡◌, ◌≤◌}
 use Rattle.sn_scenario.specs.ConfigLines.{no_config, of_worker}
 use Rattle.sn_scenario.specs.PlanLaws.{last_config}
 use Rattle.sn_scenario.specs.Plans.{due_after}

@@ -2,7 +2,7 @@ use Rattle.std.proofs.Common.{arith, refl}
 use Rattle.std.proofs.lemmas.Bool.{eq-eqb, ne_eqb}
 use Rattle.sn_scenario.specs.ConfigLines.{of_worker}
 use Rattle.sn_scenario.proofs.PlanLaws.{changed_end, changed_skip, changed_turn}
-use Rattle.sn_scenario.proofs.Planning.{plan_end, plan_skip, plan_turn}
+use Rattle.sn_scenario.proofs.PlanSteps.{plan_end, plan_skip, plan_turn}
 use Rattle.sn_scenario.proofs.plan.plan_from.Goals as goal
 use Rattle.sn_scenario.proofs.plan.plan_from.Goals.{then-next-worker+in_ok-push_change, else-next-worker}
 

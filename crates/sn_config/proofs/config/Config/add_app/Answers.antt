@@ -1,7 +1,7 @@
-use Rattle.std.proofs.Common.{List, ap, arith, length, refl, sym, ℕ, ◌<◌, ◌∙◌}
+use Rattle.std.proofs.Common.{List, ap, arith, refl, sym, ℕ, ◌∙◌}
 use Rattle.sn_config.specs.Configs.{ConfigForm}
 use Rattle.sn_config.specs.declared.app_spec.AppSpec.{AppSpec}
-use Rattle.sn_config.proofs.Valid.{with_app_valid}
+use Rattle.sn_config.proofs.Validity.{with_app_valid}
 use Rattle.sn_config.proofs.config.Config.add_app.Goals as goal
 
 pub invariant_of-self-2 : goal.invariant_of-self-2

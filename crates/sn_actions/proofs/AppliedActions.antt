@@ -2,7 +2,7 @@
 use Rattle.std.specs.FinMap as finmap
 use Rattle.std.specs.FinSet as finset
 use Rattle.std.proofs.Common.{Bool, Err, List, None, Ok, Result, Some, [], ap, cond, false, is_some, not, refl, sym, true, ℕ, ◌&&◌, ◌++◌, ◌∙◌, ◌∷◌, ◌≡◌, ◌||◌}
-use Rattle.sn_actions.proofs.Looks.{Holds, Look, PortsHold, at_its_port, is_named, at_no_port, is_this, port_free, ports_added, ports_dropped, ports_removed, this_self}
+use Rattle.sn_actions.proofs.PlainAnswers.{Holds, Look, PortsHold, at_its_port, is_named, at_no_port, is_this, port_free, ports_added, ports_dropped, ports_removed, this_self}
 use Rattle.sn_actions.specs.Diffs.{unlinking}
 use Rattle.sn_actions.specs.PlainForms.{PlainForm}
 use Rattle.sn_actions.specs.Plains.{apply, apply_all, in_port, is_at_some, out_port, reconfigured, without_app}

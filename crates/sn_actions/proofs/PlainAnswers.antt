@@ -4,8 +4,8 @@ use Rattle.std.specs.FinSet as finset
 use Rattle.std.proofs.Common.{Bool, List, None, Option, Some, ap, cond, false, is_some, not, refl, subst, sym, true, ℕ, ◌&&◌, ◌∙◌, ◌≡◌, ◌||◌}
 use Rattle.std.proofs.lemmas.Cmp.{tied_itself}
 use Rattle.std.specs.Ordering.{eq_by_cmp, is_eq}
-use Rattle.sn_actions.proofs.Entries.{no_value}
-use Rattle.sn_actions.proofs.Maps.{equal_from}
+use Rattle.sn_actions.proofs.MapEntries.{no_value}
+use Rattle.sn_actions.proofs.FiniteMaps.{equal_from}
 use Rattle.sn_actions.specs.PlainForms.{PlainForm}
 use Rattle.sn_actions.specs.Plains.{in_port, is_at_some, is_link, out_port, without_app}
 use Rattle.sn_config.specs.Configs.{same_name}

@@ -1,9 +1,9 @@
 -- The links and the apps that go, one after another.
 use Rattle.std.proofs.Common.{Bool, List, None, Option, [], ap, cond, false, is_some, map, not, refl, subst, sym, true, ℕ, ◌&&◌, ◌∙◌, ◌∷◌, ◌≡◌, ◌||◌}
 use Rattle.std.specs.Prelude.{filter, flat_map}
-use Rattle.sn_actions.proofs.Looks.{Holds, Look, either_right, is_named, is_this, named_is, named_self, this_is, this_self}
-use Rattle.sn_actions.proofs.Once.{LinksOnce, NamesOnce, has_name, links_apart, names_apart, same_named}
-use Rattle.sn_actions.proofs.Taken.{Taken, behind, nothing, stop_app, taken_agree, unlink}
+use Rattle.sn_actions.proofs.PlainAnswers.{Holds, Look, either_right, is_named, is_this, named_is, named_self, this_is, this_self}
+use Rattle.sn_actions.proofs.Uniqueness.{LinksOnce, NamesOnce, has_name, links_apart, names_apart, same_named}
+use Rattle.sn_actions.proofs.AppliedActions.{Taken, behind, nothing, stop_app, taken_agree, unlink}
 use Rattle.sn_actions.specs.Diffs.{unlinking}
 use Rattle.sn_actions.specs.PlainForms.{PlainForm}
 use Rattle.sn_actions.specs.declared.action.Action.TheVariants.{StopApp}

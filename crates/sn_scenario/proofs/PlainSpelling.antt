@@ -4,7 +4,7 @@ use Rattle.std.proofs.lemmas.List.{append-nil}
 use Rattle.std.specs.Prelude.{flat_map}
 use Rattle.sn_scenario.specs.Cutting.{behind, front, is_no_feed}
 use Rattle.sn_scenario.specs.PlainText.{plain_line, plain_text}
-use Rattle.sn_scenario.proofs.Lining.{lines-nil, lines_first}
+use Rattle.sn_scenario.proofs.LineSequence.{lines-nil, lines_first}
 
 -- the first line, and the lines of what follows it
 pub plain_first : (text : List ℕ) → 0 < length text → plain_text text ≡ plain_line (front is_no_feed text) ++ plain_text (drop 1 (behind is_no_feed text))

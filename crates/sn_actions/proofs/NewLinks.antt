@@ -1,9 +1,9 @@
 -- The links of the new configuration, one after another.
 use Rattle.std.proofs.Common.{Bool, List, [], ap, cond, false, is_some, not, refl, subst, sym, true, ℕ, ◌&&◌, ◌∙◌, ◌∷◌, ◌≡◌, ◌||◌}
 use Rattle.std.specs.Prelude.{flat_map}
-use Rattle.sn_actions.proofs.Looks.{Holds, Look, either_right, is_this, this_is, this_self}
-use Rattle.sn_actions.proofs.Once.{LinksOnce, links_apart}
-use Rattle.sn_actions.proofs.Taken.{Taken, behind, link_input, link_output, new_link, nothing, taken_agree}
+use Rattle.sn_actions.proofs.PlainAnswers.{Holds, Look, either_right, is_this, this_is, this_self}
+use Rattle.sn_actions.proofs.Uniqueness.{LinksOnce, links_apart}
+use Rattle.sn_actions.proofs.AppliedActions.{Taken, behind, link_input, link_output, new_link, nothing, taken_agree}
 use Rattle.sn_actions.specs.Diffs.{linking, relinking}
 use Rattle.sn_actions.specs.PlainForms.{PlainForm}
 use Rattle.sn_actions.specs.Plains.{in_port, out_port}

@@ -8,7 +8,7 @@ use Rattle.std.specs.Map.{keys_of}
 use Rattle.std.specs.Ordering.{is_eq}
 use Rattle.std.specs.declared.cmp.Ordering.{Ordering}
 use Rattle.std.specs.declared.cmp.Ordering.TheVariants.{Less}
-use Rattle.sn_actions.proofs.Looks.{is_named, is_this, named_is, this_is}
+use Rattle.sn_actions.proofs.PlainAnswers.{is_named, is_this, named_is, this_is}
 use Rattle.sn_config.specs.Configs.{app_at, has_link, same_name}
 use Rattle.sn_config.specs.declared.app_spec.AppSpec.{AppSpec}
 use Rattle.sn_names.specs.LinkOrder.{link_cmp, name_cmp}

@@ -8,7 +8,7 @@ use Rattle.sn_config.specs.declared.fault.ConfigFault.{ConfigFault}
 use Rattle.sn_config.specs.declared.fault.ConfigFault.TheVariants as refused
 use Rattle.sn_names.specs.declared.arg.Arg.{Arg}
 use Rattle.sn_names.specs.declared.class.Class.{Class}
-use Rattle.sn_scenario.proofs.Leaving.{arg_came, arg_found}
+use Rattle.sn_scenario.proofs.TokenReadings.{arg_came, arg_found}
 use Rattle.sn_scenario.specs.AppLines.{app_added, app_line, app_taken}
 use Rattle.sn_scenario.specs.FileUses.{FilesForm}
 use Rattle.sn_scenario.specs.Leaves.{arg_of, class_of, named}

@@ -6,13 +6,13 @@ use Rattle.std.specs.BTreeMap.{is_at}
 use Rattle.std.specs.Map.{keys_of, lookup}
 use Rattle.std.specs.Prelude.{flat_map}
 use Rattle.std.specs.Ordering.{eq_by_cmp}
-use Rattle.sn_actions.proofs.Changing.{AsBefore, apps_change, none_from, or_else, with_apps}
-use Rattle.sn_actions.proofs.Coming.{AsLeft, links_come, plus_all}
-use Rattle.sn_actions.proofs.Going.{apps_go, keeps, links_go, stays, without_apps, without_links}
-use Rattle.sn_actions.proofs.Looks.{Holds, Look, PortsHold, both_left, is_named, is_this, key_is, key_self, named_self, this_is, this_self}
-use Rattle.sn_actions.proofs.Maps.{get_entries}
-use Rattle.sn_actions.proofs.Once.{AppsOnce, LinksOnce, NamesOnce, has_name, same_named, some_named}
-use Rattle.sn_actions.proofs.Taken.{Agree, Taken, behind, taken_agree}
+use Rattle.sn_actions.proofs.AppChanges.{AsBefore, apps_change, none_from, or_else, with_apps}
+use Rattle.sn_actions.proofs.NewLinks.{AsLeft, links_come, plus_all}
+use Rattle.sn_actions.proofs.Removals.{apps_go, keeps, links_go, stays, without_apps, without_links}
+use Rattle.sn_actions.proofs.PlainAnswers.{Holds, Look, PortsHold, both_left, is_named, is_this, key_is, key_self, named_self, this_is, this_self}
+use Rattle.sn_actions.proofs.FiniteMaps.{get_entries}
+use Rattle.sn_actions.proofs.Uniqueness.{AppsOnce, LinksOnce, NamesOnce, has_name, same_named, some_named}
+use Rattle.sn_actions.proofs.AppliedActions.{Agree, Taken, behind, taken_agree}
 use Rattle.sn_actions.specs.Diffs.{change, diff_of, is_started, link_change, removed_apps, removed_links, unlinking}
 use Rattle.sn_actions.specs.PlainForms.{PlainForm}
 use Rattle.sn_actions.specs.Plains.{apply_all, full, in_port, out_port}

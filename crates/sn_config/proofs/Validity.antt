@@ -10,7 +10,7 @@ use Rattle.std.specs.Ordering.{is_eq}
 use Rattle.std.specs.declared.cmp.Ordering.{Ordering}
 use Rattle.std.specs.declared.cmp.Ordering.TheVariants.{Equal, Greater, Less}
 use Rattle.sn_config.specs.ArgText.{IsArgOf}
-use Rattle.sn_config.proofs.Written.{first_false, second_false}
+use Rattle.sn_config.proofs.UniqueArguments.{first_false, second_false}
 use Rattle.sn_config.specs.Configs.{ConfigForm, IsConfig, app_at, first_fault, has_app, has_link, link_fault, shares_port}
 use Rattle.sn_config.specs.declared.app_spec.AppSpec.{AppSpec}
 use Rattle.sn_names.specs.LinkOrder.{exact_links, link_cmp, name_cmp}

@@ -1,8 +1,8 @@
 -- Classes and arguments that are tested the same are the same.
 use Rattle.std.proofs.Common.{List, [], ap, arith, refl, slice_index_or, sym, true, ℕ, ◌==◌, ◌∙◌, ◌∷◌, ◌≡◌}
 use Rattle.std.proofs.lemmas.Bool.Decides.{nat_tests}
-use Rattle.sn_actions.proofs.Looks.{both_left, both_right, named_is}
-use Rattle.sn_actions.proofs.Once.{same_named}
+use Rattle.sn_actions.proofs.PlainAnswers.{both_left, both_right, named_is}
+use Rattle.sn_actions.proofs.Uniqueness.{same_named}
 use Rattle.sn_actions.specs.Same.{class_index, same_arg, same_class}
 use Rattle.sn_config.specs.declared.app_spec.AppSpec.{AppSpec}
 use Rattle.sn_names.specs.declared.arg.Arg.{Arg}

@@ -13,8 +13,8 @@ use Rattle.sn_names.specs.LinkOrder.{name_cmp}
 use Rattle.sn_names.specs.declared.arg.Arg.{Arg}
 use Rattle.sn_names.specs.declared.class.Class.{Class}
 use Rattle.sn_scenario.proofs.AppUses.{AreMore, IsUsing, app_keeps_using, files_keep_using, files_more, lanes_keep_using, none_using, one_writer, served}
-use Rattle.sn_scenario.proofs.Filing.{AreUsed, with_file_keeps}
-use Rattle.sn_scenario.proofs.Keeping.{AreSized, HasNextLane, IsNew, IsNext, any_ok, config_line_gives, lane_line_keeps, placed_keep, setting_line_keeps, stop_line_keeps, then_ok, unless}
+use Rattle.sn_scenario.proofs.FileUse.{AreUsed, with_file_keeps}
+use Rattle.sn_scenario.proofs.LineBounds.{AreSized, HasNextLane, IsNew, IsNext, any_ok, config_line_gives, lane_line_keeps, placed_keep, setting_line_keeps, stop_line_keeps, then_ok, unless}
 use Rattle.sn_scenario.specs.AppLines.{app_added, app_line, app_taken, end_and_file}
 use Rattle.sn_scenario.specs.ConfigLines.{config_line, has_later, of_worker}
 use Rattle.sn_scenario.specs.Cutting.{behind_token, first_token, is_line_byte, is_remark, lines_of, tokens, without_return}

@@ -1,11 +1,11 @@
 -- The apps of the new configuration, one after another.
 use Rattle.std.proofs.Common.{Bool, List, None, Option, Some, [], ap, cond, false, is_some, not, refl, sym, true, ℕ, ◌&&◌, ◌++◌, ◌∙◌, ◌∷◌, ◌≡◌}
 use Rattle.std.specs.Prelude.{flat_map}
-use Rattle.sn_actions.proofs.Exact.{exact_spec}
-use Rattle.sn_actions.proofs.Going.{and_true}
-use Rattle.sn_actions.proofs.Looks.{Holds, Look, is_named, named_is, named_self}
-use Rattle.sn_actions.proofs.Once.{AppsOnce, same_named}
-use Rattle.sn_actions.proofs.Taken.{Taken, behind, nothing, reconfig_app, start_app, stop_app, taken_agree}
+use Rattle.sn_actions.proofs.EqualValues.{exact_spec}
+use Rattle.sn_actions.proofs.Removals.{and_true}
+use Rattle.sn_actions.proofs.PlainAnswers.{Holds, Look, is_named, named_is, named_self}
+use Rattle.sn_actions.proofs.Uniqueness.{AppsOnce, same_named}
+use Rattle.sn_actions.proofs.AppliedActions.{Taken, behind, nothing, reconfig_app, start_app, stop_app, taken_agree}
 use Rattle.sn_actions.specs.Diffs.{change, starts}
 use Rattle.sn_actions.specs.PlainForms.{PlainForm}
 use Rattle.sn_actions.specs.Same.{same_arg, same_class}

@@ -7,7 +7,7 @@ use Rattle.std.proofs.lemmas.List.Sums.{sum_by-append}
 use Rattle.std.proofs.lemmas.Slice.Eq.{bytes_eq-Decides}
 use Rattle.std.specs.List.{list_any}
 use Rattle.std.specs.Str.{bytes_eq}
-use Rattle.sn_scenario.proofs.Leaving.{number_came}
+use Rattle.sn_scenario.proofs.TokenReadings.{number_came}
 use Rattle.sn_scenario.specs.ConfigLines.{config_line, has_later, of_worker}
 use Rattle.sn_scenario.specs.LaneLines.{has_lane, lane_line}
 use Rattle.sn_scenario.specs.Leaves.{named, number_in, numbered, worker_in}
