@@ -15,23 +15,23 @@ use std::alloc::Global;
 
 /// The most packets of a pool. Their buffers of 10,240 bytes come to 160 MiB.
 const MOST_POOL: u32 = 16_384;
-/// The most workers, each a thread of its own.
+/// The most workers: a bound that the format sets.
 const MOST_WORKERS: u32 = 16;
-/// The most breaths of a round.
+/// The most breaths of a round: a bound that the format sets.
 const MOST_BREATHS: u32 = 1000;
 /// The most rounds. A configuration may name any of them.
 pub(crate) const MOST_ROUNDS: u32 = 100_000;
-/// The most restarts of a worker.
+/// The most restarts of a worker: a bound that the format sets.
 const MOST_RESTARTS: u32 = 1000;
-/// What stands where a setting isn't given.
+/// The pool where none is given: 40 MiB of buffers.
 const DEFAULT_POOL: u32 = 4096;
-
+/// The workers where none are given.
 const DEFAULT_WORKERS: u32 = 1;
-
+/// The breaths of a round where none are given.
 const DEFAULT_BREATHS: u32 = 100;
-
+/// The rounds where none are given.
 const DEFAULT_ROUNDS: u32 = 10;
-
+/// The restarts where none are given.
 const DEFAULT_RESTARTS: u32 = 0;
 
 /// How large a run is.
