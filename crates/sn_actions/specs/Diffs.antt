@@ -1,9 +1,9 @@
 -- The actions that lead from one configuration to another.
-use Rattle.std.specs.Prelude.{Bool, List, None, Option, Some, [], cond, false, filter, flat_map, map, not, true, ℕ, ◌++◌, ◌∷◌}
+use Rattle.std.specs.Prelude.{Bool, List, None, Option, Some, [], cond, false, filter, flat_map, map, not, true, ℕ, ◌++◌, ◌∷◌, ◌≡◌}
 use Rattle.std.specs.Map.{keys_of}
 use Rattle.sn_actions.specs.Same.{same_arg, same_class}
 use Rattle.sn_actions.specs.declared.action.Action.{Action}
-use Rattle.sn_actions.specs.declared.action.Action.TheVariants.{FreeLink, LinkInput, LinkOutput, NewLink, ReconfigApp, StartApp, StopApp, UnlinkInput, UnlinkOutput}
+use Rattle.sn_actions.specs.declared.action.Action.TheVariants.{Commit, FreeLink, LinkInput, LinkOutput, NewLink, ReconfigApp, StartApp, StopApp, UnlinkInput, UnlinkOutput}
 use Rattle.sn_config.specs.Configs.{ConfigForm, app_at, has_app, has_link}
 use Rattle.sn_config.specs.declared.app_spec.AppSpec.{AppSpec}
 use Rattle.sn_names.specs.declared.link.LinkSpec.{LinkSpec}
@@ -59,3 +59,17 @@ diff_of old new =
     ++ (map StopApp (removed_apps old new)
     ++ (flat_map (λ app. change app.0 app.1 (app_at old.apps app.0)) new.apps
     ++ flat_map (link_change old new) new.links))
+
+-- an action between two configurations names a link or an app that the old one has and that goes,
+-- or one that the new one has, with its class and argument; none is a commit
+abbrev pub IsChange : ConfigForm → ConfigForm → Action → Type 0
+IsChange old new (UnlinkOutput link) = has_link old.links link ≡ true
+IsChange old new (UnlinkInput link) = has_link old.links link ≡ true
+IsChange old new (FreeLink link) = has_link old.links link ≡ true
+IsChange old new (StopApp name) = has_app old name ≡ true
+IsChange old new (StartApp name spec) = app_at new.apps name ≡ Some spec
+IsChange old new (ReconfigApp name spec) = app_at new.apps name ≡ Some spec
+IsChange old new (NewLink link) = has_link new.links link ≡ true
+IsChange old new (LinkOutput link) = has_link new.links link ≡ true
+IsChange old new (LinkInput link) = has_link new.links link ≡ true
+IsChange old new Commit = ⊥

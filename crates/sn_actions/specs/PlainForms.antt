@@ -11,3 +11,7 @@ pub record PlainForm : Type 0 where
   pub links : finset.FinSet link_cmp
   pub outs : finmap.FinMap port_cmp LinkSpec
   pub ins : finmap.FinMap port_cmp LinkSpec
+
+-- the plain form of an empty network
+abbrev pub empty_form : PlainForm
+empty_form = record { apps = finmap.empty; links = finset.empty; outs = finmap.empty; ins = finmap.empty }

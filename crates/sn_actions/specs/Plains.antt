@@ -2,6 +2,7 @@
 use Rattle.std.specs.FinMap as finmap
 use Rattle.std.specs.FinSet as finset
 use Rattle.std.specs.Prelude.{Bool, Err, List, None, Ok, Option, Result, Some, [], cond, false, map, not, ℕ, ◌||◌, ◌∷◌}
+use Rattle.std.specs.List.{list_any}
 use Rattle.std.specs.Ordering.{eq_by_cmp}
 use Rattle.sn_actions.specs.Same.{same_class}
 use Rattle.sn_actions.specs.declared.action.Action.{Action}
@@ -36,6 +37,10 @@ abbrev pub is_link : Option LinkSpec → LinkSpec → Bool
 is_link None link = false
 is_link (Some there) link = eq_by_cmp link_cmp there link
 
+-- whether this link is at some port
+abbrev pub is_at_some : finmap.FinMap port_cmp LinkSpec → LinkSpec → Bool
+is_at_some ports link = list_any (λ there. eq_by_cmp link_cmp there link) (finmap.values ports)
+
 -- the entries of other apps
 abbrev pub without_app : finmap.FinMap port_cmp LinkSpec → List ℕ → finmap.FinMap port_cmp LinkSpec
 without_app ports name = finmap.retain_keys ports (λ key. not (same_name key.0 name))
@@ -58,7 +63,7 @@ apply (UnlinkInput link) plain =
     (Err NotLinked)
 apply (FreeLink link) plain =
     cond (finset.contains plain.links link)
-    (cond (is_link (finmap.get plain.outs (out_port link)) link || is_link (finmap.get plain.ins (in_port link)) link)
+    (cond (is_at_some plain.outs link || is_at_some plain.ins link)
     (Err StillLinked)
     (Ok (record plain { links = finset.remove plain.links link })))
     (Err NoLink)

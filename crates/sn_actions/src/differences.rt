@@ -1,12 +1,12 @@
 //! The actions that lead from one configuration to another.
-ghost use Rattle.sn_actions.specs.Diffs.{change, diff_of, is_started, link_change, linking, relinking, removed_links, unlinking};
+ghost use Rattle.sn_actions.specs.Diffs.{IsChange, change, diff_of, is_started, link_change, linking, relinking, removed_links, unlinking};
 ghost use Rattle.sn_actions.specs.declared.action.Action.TheVariants.{StopApp};
 ghost use Rattle.sn_actions.specs.Plains.{apply_all, full};
 ghost use Rattle.sn_config.specs.Configs.{IsConfig, app_at, has_link};
 ghost use Rattle.sn_names.specs.LinkOrder.{link_cmp, name_cmp};
 ghost use Rattle.std.specs.List.Sorted.{IsStrictlySortedBy};
 ghost use Rattle.std.specs.Map.{keys_of};
-ghost use Rattle.std.specs.Prelude.{IfOk, OnOk, None, Option, filter, flat_map, is_some, map, not, ◌++◌, ◌≡◌};
+ghost use Rattle.std.specs.Prelude.{All, IfOk, OnOk, None, Option, filter, flat_map, is_some, map, not, vec_len, ◌++◌, ◌≡◌, ◌≤◌};
 
 use crate::Action;
 use crate::same::{is_same_arg, is_same_class};
@@ -26,6 +26,10 @@ pub fn diff(alloc: Global, old: &Config, new: &Config) -> Result<Vec<Action>, Al
 
     // All are taken in order from the full form of the old configuration, and give that of the new one.
     ensures law { IfOk result (λ actions. apply_all actions.items (full old.now) ≡ Ok (full new.now)) }
+
+    // Each names what the old configuration has or the new one, and none is a commit.
+    ensures changes { IfOk result (λ actions. All (IsChange old.now new.now) actions.items) }
+    ensures few { IfOk result (λ actions. vec_len actions ≤ 4096) }
 {
     recall_order(old);
     recall_order(new);

@@ -1,14 +1,15 @@
 //! The plain form of a network, and what each action does to it.
+ghost use Rattle.sn_actions.specs.PlainForms.{empty_form};
 ghost use Rattle.sn_actions.specs.PlainOf.{plain_of};
 ghost use Rattle.sn_actions.specs.Plains.{apply};
 ghost use Rattle.sn_actions.specs.declared.action.Action.TheVariants.{FreeLink, LinkInput, LinkOutput, NewLink, ReconfigApp, StartApp, StopApp, UnlinkInput, UnlinkOutput};
 ghost use Rattle.sn_actions.specs.declared.fault.ActionFault.TheVariants.{OutOfMemory};
-ghost use Rattle.std.specs.FinMap as finmap;
-ghost use Rattle.std.specs.FinSet as finset;
-ghost use Rattle.std.specs.Prelude.{Err, IfErr, Ok, OnErr, OnOk, ◌≡◌, ◌≢◌};
+ghost use Rattle.std.specs.Prelude.{Err, IfErr, IsOk, Ok, OnErr, OnOk, ◌≡◌, ◌≢◌};
 
 use crate::kept::{has_app, has_link, put_app, put_link, same_class_there, take_app, take_link};
-use crate::ports::{drop_ports, has_port, is_at_a_port, is_at_port, port_key, put_port, take_port};
+use crate::ports::{
+    drop_ports, has_port, is_at_port, is_at_some_port, port_key, put_port, take_port,
+};
 use crate::{Action, ActionFault};
 use sn_config::AppSpec;
 use sn_names::{LinkSpec, Name};
@@ -33,7 +34,7 @@ pub struct Plain {
 impl Plain {
     /// The empty plain form.
     pub fn new(alloc: Global) -> Plain
-        ensures { plain_of result ≡ record { apps = finmap.empty; links = finset.empty; outs = finmap.empty; ins = finmap.empty } }
+        ensures { plain_of result ≡ empty_form }
     {
         Plain {
             apps: BTreeMap::new(alloc),
@@ -47,11 +48,12 @@ impl Plain {
     /// Takes an action.
     ///
     /// # Errors
-    /// The first check of the action that fails, else want of memory. The plain form is then as
-    /// before.
+    /// The first check of the action that fails; where none fails, want of memory. The plain form is
+    /// then as before.
     pub fn apply(&mut self, action: &Action) -> Result<(), ActionFault>
         ensures ok { OnOk result (apply action.now (plain_of self.old) ≡ Ok (plain_of self.new)) }
         ensures refused { IfErr result (λ fault. fault ≢ OutOfMemory → apply action.now (plain_of self.old) ≡ Err fault) }
+        ensures memory { IfErr result (λ fault. fault ≡ OutOfMemory → IsOk (apply action.now (plain_of self.old))) }
         ensures err { OnErr result (plain_of self.new ≡ plain_of self.old) }
     {
         match action {
@@ -72,13 +74,13 @@ impl Plain {
     fn unlink_output(&mut self, link: &LinkSpec) -> Result<(), ActionFault>
         ensures ok { OnOk result (apply (UnlinkOutput link.now) (plain_of self.old) ≡ Ok (plain_of self.new)) }
         ensures refused { IfErr result (λ fault. fault ≢ OutOfMemory → apply (UnlinkOutput link.now) (plain_of self.old) ≡ Err fault) }
+        ensures memory { IfErr result (λ fault. fault ≡ OutOfMemory → IsOk (apply (UnlinkOutput link.now) (plain_of self.old))) }
         ensures err { OnErr result (plain_of self.new ≡ plain_of self.old) }
     {
-        let key = port_key(self.alloc, &link.from, &link.out)?;
-        if !is_at_port(&self.outs, &key, link) {
+        if !is_at_port(&self.outs, &link.from, &link.out, link) {
             return Err(ActionFault::NotLinked);
         }
-        take_port(&mut self.outs, &key);
+        take_port(&mut self.outs, &link.from, &link.out);
         Ok(())
     }
 
@@ -86,28 +88,27 @@ impl Plain {
     fn unlink_input(&mut self, link: &LinkSpec) -> Result<(), ActionFault>
         ensures ok { OnOk result (apply (UnlinkInput link.now) (plain_of self.old) ≡ Ok (plain_of self.new)) }
         ensures refused { IfErr result (λ fault. fault ≢ OutOfMemory → apply (UnlinkInput link.now) (plain_of self.old) ≡ Err fault) }
+        ensures memory { IfErr result (λ fault. fault ≡ OutOfMemory → IsOk (apply (UnlinkInput link.now) (plain_of self.old))) }
         ensures err { OnErr result (plain_of self.new ≡ plain_of self.old) }
     {
-        let key = port_key(self.alloc, &link.to, &link.input)?;
-        if !is_at_port(&self.ins, &key, link) {
+        if !is_at_port(&self.ins, &link.to, &link.input, link) {
             return Err(ActionFault::NotLinked);
         }
-        take_port(&mut self.ins, &key);
+        take_port(&mut self.ins, &link.to, &link.input);
         Ok(())
     }
 
-    /// Frees a link that is at no port.
+    /// Frees a link that is at no port, neither at its own nor at another.
     fn free_link(&mut self, link: &LinkSpec) -> Result<(), ActionFault>
         ensures ok { OnOk result (apply (FreeLink link.now) (plain_of self.old) ≡ Ok (plain_of self.new)) }
         ensures refused { IfErr result (λ fault. fault ≢ OutOfMemory → apply (FreeLink link.now) (plain_of self.old) ≡ Err fault) }
+        ensures memory { IfErr result (λ fault. fault ≡ OutOfMemory → IsOk (apply (FreeLink link.now) (plain_of self.old))) }
         ensures err { OnErr result (plain_of self.new ≡ plain_of self.old) }
     {
         if !has_link(&self.links, link) {
             return Err(ActionFault::NoLink);
         }
-        let out = port_key(self.alloc, &link.from, &link.out)?;
-        let input = port_key(self.alloc, &link.to, &link.input)?;
-        if is_at_a_port(&self.outs, &out, &self.ins, &input, link) {
+        if is_at_some_port(&self.outs, link) || is_at_some_port(&self.ins, link) {
             return Err(ActionFault::StillLinked);
         }
         take_link(&mut self.links, link);
@@ -118,6 +119,7 @@ impl Plain {
     fn stop_app(&mut self, name: &Name) -> Result<(), ActionFault>
         ensures ok { OnOk result (apply (StopApp name.now) (plain_of self.old) ≡ Ok (plain_of self.new)) }
         ensures refused { IfErr result (λ fault. fault ≢ OutOfMemory → apply (StopApp name.now) (plain_of self.old) ≡ Err fault) }
+        ensures memory { IfErr result (λ fault. fault ≡ OutOfMemory → IsOk (apply (StopApp name.now) (plain_of self.old))) }
         ensures err { OnErr result (plain_of self.new ≡ plain_of self.old) }
     {
         if !has_app(&self.apps, name) {
@@ -133,6 +135,7 @@ impl Plain {
     fn start_app(&mut self, name: &Name, spec: &AppSpec) -> Result<(), ActionFault>
         ensures ok { OnOk result (apply (StartApp name.now spec.now) (plain_of self.old) ≡ Ok (plain_of self.new)) }
         ensures refused { IfErr result (λ fault. fault ≢ OutOfMemory → apply (StartApp name.now spec.now) (plain_of self.old) ≡ Err fault) }
+        ensures memory { IfErr result (λ fault. fault ≡ OutOfMemory → IsOk (apply (StartApp name.now spec.now) (plain_of self.old))) }
         ensures err { OnErr result (plain_of self.new ≡ plain_of self.old) }
     {
         if has_app(&self.apps, name) {
@@ -150,6 +153,7 @@ impl Plain {
     fn reconfig_app(&mut self, name: &Name, spec: &AppSpec) -> Result<(), ActionFault>
         ensures ok { OnOk result (apply (ReconfigApp name.now spec.now) (plain_of self.old) ≡ Ok (plain_of self.new)) }
         ensures refused { IfErr result (λ fault. fault ≢ OutOfMemory → apply (ReconfigApp name.now spec.now) (plain_of self.old) ≡ Err fault) }
+        ensures memory { IfErr result (λ fault. fault ≡ OutOfMemory → IsOk (apply (ReconfigApp name.now spec.now) (plain_of self.old))) }
         ensures err { OnErr result (plain_of self.new ≡ plain_of self.old) }
     {
         let Some(same) = same_class_there(&self.apps, name, spec) else {
@@ -170,6 +174,7 @@ impl Plain {
     fn new_link(&mut self, link: &LinkSpec) -> Result<(), ActionFault>
         ensures ok { OnOk result (apply (NewLink link.now) (plain_of self.old) ≡ Ok (plain_of self.new)) }
         ensures refused { IfErr result (λ fault. fault ≢ OutOfMemory → apply (NewLink link.now) (plain_of self.old) ≡ Err fault) }
+        ensures memory { IfErr result (λ fault. fault ≡ OutOfMemory → IsOk (apply (NewLink link.now) (plain_of self.old))) }
         ensures err { OnErr result (plain_of self.new ≡ plain_of self.old) }
     {
         if has_link(&self.links, link) {
@@ -183,6 +188,7 @@ impl Plain {
     fn link_output(&mut self, link: &LinkSpec) -> Result<(), ActionFault>
         ensures ok { OnOk result (apply (LinkOutput link.now) (plain_of self.old) ≡ Ok (plain_of self.new)) }
         ensures refused { IfErr result (λ fault. fault ≢ OutOfMemory → apply (LinkOutput link.now) (plain_of self.old) ≡ Err fault) }
+        ensures memory { IfErr result (λ fault. fault ≡ OutOfMemory → IsOk (apply (LinkOutput link.now) (plain_of self.old))) }
         ensures err { OnErr result (plain_of self.new ≡ plain_of self.old) }
     {
         if !has_link(&self.links, link) {
@@ -191,10 +197,10 @@ impl Plain {
         if !has_app(&self.apps, &link.from) {
             return Err(ActionFault::NoApp);
         }
-        let key = port_key(self.alloc, &link.from, &link.out)?;
-        if has_port(&self.outs, &key) {
+        if has_port(&self.outs, &link.from, &link.out) {
             return Err(ActionFault::PortTaken);
         }
+        let key = port_key(self.alloc, &link.from, &link.out)?;
         put_port(&mut self.outs, key, link.copy(self.alloc)?)?;
         Ok(())
     }
@@ -203,6 +209,7 @@ impl Plain {
     fn link_input(&mut self, link: &LinkSpec) -> Result<(), ActionFault>
         ensures ok { OnOk result (apply (LinkInput link.now) (plain_of self.old) ≡ Ok (plain_of self.new)) }
         ensures refused { IfErr result (λ fault. fault ≢ OutOfMemory → apply (LinkInput link.now) (plain_of self.old) ≡ Err fault) }
+        ensures memory { IfErr result (λ fault. fault ≡ OutOfMemory → IsOk (apply (LinkInput link.now) (plain_of self.old))) }
         ensures err { OnErr result (plain_of self.new ≡ plain_of self.old) }
     {
         if !has_link(&self.links, link) {
@@ -211,10 +218,10 @@ impl Plain {
         if !has_app(&self.apps, &link.to) {
             return Err(ActionFault::NoApp);
         }
-        let key = port_key(self.alloc, &link.to, &link.input)?;
-        if has_port(&self.ins, &key) {
+        if has_port(&self.ins, &link.to, &link.input) {
             return Err(ActionFault::PortTaken);
         }
+        let key = port_key(self.alloc, &link.to, &link.input)?;
         put_port(&mut self.ins, key, link.copy(self.alloc)?)?;
         Ok(())
     }

@@ -1,6 +1,6 @@
 //! Each public function once, with ample memory, and the worked lists of actions.
 use super::*;
-use sn_config::Config;
+use sn_config::{Config, ConfigFault};
 use sn_names::{Class, LinkSpec, Name};
 use std::alloc::Global;
 use std::test::Fail;
@@ -34,7 +34,7 @@ fn kinds(alloc: Global, actions: &[Action]) -> Result<Vec<u8>, Fail> {
 }
 
 #[test]
-fn replaces_an_app(rt: HostRuntime) -> Result<(), Fail> {
+fn an_app_is_replaced(rt: HostRuntime) -> Result<(), Fail> {
     let old = linked(rt.alloc(), b"b", Class::Sink, b"a.out -> b.in")?;
     let new = linked(rt.alloc(), b"c", Class::Sink, b"a.out -> c.in")?;
     let actions = diff(rt.alloc(), &old, &new)?;
@@ -44,7 +44,7 @@ fn replaces_an_app(rt: HostRuntime) -> Result<(), Fail> {
 }
 
 #[test]
-fn changes_a_class(rt: HostRuntime) -> Result<(), Fail> {
+fn an_app_of_another_class_is_stopped_and_started(rt: HostRuntime) -> Result<(), Fail> {
     let old = linked(rt.alloc(), b"b", Class::Sink, b"a.out -> b.in")?;
     let new = linked(rt.alloc(), b"b", Class::Tee, b"a.out -> b.in")?;
     let actions = diff(rt.alloc(), &old, &new)?;
@@ -54,10 +54,8 @@ fn changes_a_class(rt: HostRuntime) -> Result<(), Fail> {
 }
 
 #[test]
-fn takes_and_refuses_actions(rt: HostRuntime) -> Result<(), Fail> {
+fn a_plain_form_takes_the_actions_of_a_configuration(rt: HostRuntime) -> Result<(), Fail> {
     let mut plain = Plain::new(rt.alloc());
-    let stop = Action::StopApp(Name::parse(rt.alloc(), b"z")?);
-    assert!(rt; matches!(plain.apply(&stop), Err(ActionFault::NoApp)));
     let empty = Config::new(rt.alloc());
     let new = linked(rt.alloc(), b"b", Class::Sink, b"a.out -> b.in")?;
     let actions = diff(rt.alloc(), &empty, &new)?;
@@ -67,5 +65,18 @@ fn takes_and_refuses_actions(rt: HostRuntime) -> Result<(), Fail> {
     assert_eq!(rt; plain.apps.len(), 2);
     assert_eq!(rt; plain.outs.len(), 1);
     assert_eq!(rt; plain.ins.len(), 1);
+    Ok(())
+}
+
+#[test]
+fn a_taken_port_and_a_missing_app_are_refused(rt: HostRuntime) -> Result<(), Fail> {
+    let mut config = linked(rt.alloc(), b"b", Class::Sink, b"a.out -> b.in")?;
+    config.add_app(Name::parse(rt.alloc(), b"c")?, Class::Sink, None)?;
+    let refused = config.add_link(LinkSpec::parse(rt.alloc(), b"a.out -> c.in")?);
+    assert!(rt; matches!(refused, Err(ConfigFault::PortTaken)));
+    assert_eq!(rt; config.links().len(), 1);
+    let mut plain = Plain::new(rt.alloc());
+    let stop = Action::StopApp(Name::parse(rt.alloc(), b"z")?);
+    assert!(rt; matches!(plain.apply(&stop), Err(ActionFault::NoApp)));
     Ok(())
 }

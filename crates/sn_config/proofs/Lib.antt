@@ -1,2 +1,2 @@
-pub mod Valid
-pub mod Written
+pub mod UniqueArguments
+pub mod Validity

@@ -83,11 +83,29 @@ abbrev pub TakesArg : Class → Option (List ℕ) → Arg → Type 0
 TakesArg class None arg = (goes_without class ≡ true) × (arg ≡ Nothing)
 TakesArg class (Some word) arg = TakesWord class word arg
 
--- no argument is taken, or memory ran out
+-- the argument, however it is written, is one that the class has
+abbrev pub IsArgOf : Class → Arg → Type 0
+IsArgOf Source Nothing = Unit {0}
+IsArgOf Source (Number n) = n ≤ 10240
+IsArgOf Sink Nothing = Unit {0}
+IsArgOf Tee Nothing = Unit {0}
+IsArgOf Join Nothing = Unit {0}
+IsArgOf Split Nothing = Unit {0}
+IsArgOf Repeater Nothing = Unit {0}
+IsArgOf Truncate (Number n) = n ≤ 10240
+IsArgOf Sample (Number n) = (1 ≤ n) × (n ≤ 1000000)
+IsArgOf ByteFilter (Byte offset value) = (offset ≤ 10239) × (value ≤ 255)
+IsArgOf PcapReader (File name) = IsFileText name
+IsArgOf PcapWriter (File name) = IsFileText name
+IsArgOf Receiver (Lane name) = IsName name
+IsArgOf Transmitter (Lane name) = IsName name
+IsArgOf _ _ = ⊥
+
+-- no argument is taken; or one is, and memory ran out
 abbrev pub IsArgFault : (Arg → Type 0) → ConfigFault → Type 0
 IsArgFault Takes Twice = ⊥
 IsArgFault Takes NoSuchApp = ⊥
 IsArgFault Takes BadArg = (arg : Arg) → Takes arg → ⊥
 IsArgFault Takes PortTaken = ⊥
 IsArgFault Takes TooMany = ⊥
-IsArgFault Takes OutOfMemory = Unit {0}
+IsArgFault Takes OutOfMemory = (arg : Arg) × Takes arg

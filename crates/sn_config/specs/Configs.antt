@@ -1,11 +1,11 @@
 -- Configurations.
-use Rattle.std.specs.Prelude.{Bool, List, None, Option, Some, cond, length, ℕ, ◌&&◌, ◌<◌, ◌||◌, ◌≡◌, ◌≤◌, nat_eq, nat_le, is_some, true, false}
+use Rattle.std.specs.Prelude.{All, Bool, List, None, Option, Some, cond, length, ℕ, ◌&&◌, ◌<◌, ◌||◌, ◌≡◌, ◌≤◌, nat_eq, nat_le, is_some, true, false}
 use Rattle.std.specs.BTreeMap.{insert_entry, is_at}
 use Rattle.std.specs.BTreeSet.{insert_key}
 use Rattle.std.specs.Cmp.Lexicographic.{pointwise}
 use Rattle.std.specs.List.{list_any}
-use Rattle.std.specs.Map.{lookup}
-use Rattle.sn_config.specs.ArgText.{TakesArg}
+use Rattle.std.specs.Map.{lookup, values_of}
+use Rattle.sn_config.specs.ArgText.{IsArgOf, TakesArg}
 use Rattle.sn_config.specs.declared.app_spec.AppSpec.{AppSpec}
 use Rattle.sn_config.specs.declared.fault.ConfigFault.{ConfigFault}
 use Rattle.sn_config.specs.declared.fault.ConfigFault.TheVariants.{BadArg, NoSuchApp, OutOfMemory, PortTaken, TooMany, Twice}
@@ -52,14 +52,14 @@ pub record AddsApp (old new : ConfigForm) (name : List ℕ) (class : Class) (tex
   pub room : length old.apps < 256
   pub added : new ≡ with_app old name spec
 
--- the first failing check of an app
+-- the first failing check of an app, or want of memory where none fails
 abbrev pub IsAppFault : ConfigForm → List ℕ → Class → Option (List ℕ) → ConfigFault → Type 0
 IsAppFault config name class text Twice = has_app config name ≡ true
 IsAppFault config name class text NoSuchApp = ⊥
 IsAppFault config name class text BadArg = (has_app config name ≡ false) × ((arg : Arg) → TakesArg class text arg → ⊥)
 IsAppFault config name class text PortTaken = ⊥
 IsAppFault config name class text TooMany = (has_app config name ≡ false) × ((arg : Arg) × TakesArg class text arg) × (256 ≤ length config.apps)
-IsAppFault config name class text OutOfMemory = Unit {0}
+IsAppFault config name class text OutOfMemory = (has_app config name ≡ false) × ((arg : Arg) × TakesArg class text arg) × (length config.apps < 256)
 
 -- the first failing check: the link is there, an app isn't, a port is taken, there are too many
 abbrev pub first_fault : Bool → Bool → Bool → Bool → Option ConfigFault
@@ -74,8 +74,10 @@ link_fault config link =
     (list_any (shares_port link) config.links)
     (nat_le 512 (length config.links))
 
--- what holds of every configuration: apps of links are there, and no two links have a port in common
+-- what holds of every configuration: each app has an argument of its class, apps of links are there,
+-- and no two links have a port in common
 pub record IsConfig (config : ConfigForm) : Type 0 where
+  pub args : All (λ spec. IsArgOf spec.class spec.arg) (values_of config.apps)
   pub few_apps : length config.apps ≤ 256
   pub few_links : length config.links ≤ 512
   pub from : (link : LinkSpec) → has_link config.links link ≡ true → has_app config link.from ≡ true

@@ -1,28 +1,35 @@
 //! Arguments as they are written behind a class.
-ghost use Rattle.sn_config.specs.ArgText.{IsArgFault, IsByte, IsFile, IsFileText, IsLane, IsNumber, TakesArg, TakesWord, goes_without, is_file_byte};
+ghost use Rattle.sn_config.specs.ArgText.{IsArgFault, IsArgOf, IsByte, IsFile, IsFileText, IsLane, IsNumber, TakesArg, TakesWord, goes_without, is_file_byte};
 ghost use Rattle.sn_config.specs.Signs.{is_sign};
+ghost use Rattle.sn_names.specs.NameText.{IsName, is_name_byte};
 ghost use Rattle.std.specs.List.{list_all, list_any};
 ghost use Rattle.std.specs.Option.{option_copied};
 ghost use Rattle.std.specs.Prelude.{IfErr, IfNone, IfOk, IfSome, IsTrue, false, true, ◌++◌, ◌↔◌, ◌∷◌, ◌≡◌};
 
 use crate::ConfigFault;
-use sn_names::{Arg, Class, FileName, Name, NameFault, decimal};
+use sn_names::{Arg, Class, FileName, Name, decimal};
 use std::alloc::Global;
 
-/// The longest packet, in bytes.
-const MOST_BYTES: u64 = 10_240;
-/// The last place of a packet.
+/// The most payload bytes of a packet. Snabb's packets hold this many (`core.packet`).
+const MOST_PACKET_BYTES: u64 = 10_240;
+/// The last place of a byte in a packet, counted from 0.
 const LAST_PLACE: u64 = 10_239;
-/// The most packets of which one is passed.
-const MOST_PACKETS: u64 = 1_000_000;
-/// The greatest byte.
+/// The most packets of which a `Sample` passes one: a bound that the format sets.
+const MOST_SAMPLED: u64 = 1_000_000;
+/// The greatest value of a byte.
 const LAST_BYTE: u64 = 255;
-/// The most bytes that a file's name has in a scenario.
+/// The most bytes that a file's name has in a scenario, as the name of one file has on most systems.
 const MOST_FILE_BYTES: usize = 255;
+/// The most bytes of a name.
+const MOST_NAME_BYTES: usize = 64;
 
 /// The argument that a class takes of what is written behind it, if anything is.
+///
+/// # Errors
+/// BadArg exactly where the class takes none of this; else want of memory.
 pub fn read_arg(alloc: Global, class: Class, text: Option<&[u8]>) -> Result<Arg, ConfigFault>
     ensures taken { IfOk result (TakesArg class (option_copied text.entry)) }
+    ensures form { IfOk result (IsArgOf class) }
     ensures refused { IfErr result (IsArgFault (TakesArg class (option_copied text.entry))) }
 {
     match text {
@@ -50,8 +57,8 @@ fn read_word(alloc: Global, class: Class, word: &[u8]) -> Result<Arg, ConfigFaul
     ensures refused { IfErr result (IsArgFault (TakesWord class word.now)) }
 {
     match class {
-        Class::Source | Class::Truncate => number_arg(word, 0, MOST_BYTES),
-        Class::Sample => number_arg(word, 1, MOST_PACKETS),
+        Class::Source | Class::Truncate => number_arg(word, 0, MOST_PACKET_BYTES),
+        Class::Sample => number_arg(word, 1, MOST_SAMPLED),
         Class::ByteFilter => byte_arg(word),
         Class::PcapReader | Class::PcapWriter => file_arg(alloc, word),
         Class::Receiver | Class::Transmitter => lane_arg(alloc, word),
@@ -152,9 +159,35 @@ fn lane_arg(alloc: Global, word: &[u8]) -> Result<Arg, ConfigFault>
     ensures taken { IfOk result (IsLane word.now) }
     ensures refused { IfErr result (IsArgFault (IsLane word.now)) }
 {
+    if !is_lane_name(word) {
+        return Err(ConfigFault::BadArg);
+    }
     match Name::parse(alloc, word) {
         Ok(name) => Ok(Arg::Lane(name)),
-        Err(NameFault::At(_)) => Err(ConfigFault::BadArg),
-        Err(NameFault::OutOfMemory) => Err(ConfigFault::OutOfMemory),
+        Err(_) => Err(ConfigFault::OutOfMemory),
     }
+}
+
+/// Whether the bytes are an interlink's name.
+fn is_lane_name(word: &[u8]) -> bool
+    ensures { IsTrue result ↔ IsName word.now }
+{
+    if word.is_empty() || word.len() > MOST_NAME_BYTES {
+        return false;
+    }
+    are_name_bytes(word)
+}
+
+/// Whether each byte is a letter, a digit or `_`.
+fn are_name_bytes(word: &[u8]) -> bool
+    ensures { result ≡ list_all is_name_byte word.now }
+{
+    word.iter().all(|byte| may_name_lane(*byte))
+}
+
+/// A letter, a digit or `_`.
+fn may_name_lane(byte: u8) -> bool
+    ensures { result ≡ is_name_byte byte }
+{
+    byte.is_ascii_alphanumeric() || byte == b'_'
 }

@@ -5,7 +5,7 @@ ghost use Rattle.std.specs.BTreeMap.{insert_entry, is_at};
 ghost use Rattle.std.specs.BTreeSet.{insert_key};
 ghost use Rattle.std.specs.List.{list_any};
 ghost use Rattle.std.specs.Option.{option_copied};
-ghost use Rattle.std.specs.Prelude.{IfErr, None, OnErr, OnOk, List, Some, [], cond, is_some, length, true, ℕ, ◌&&◌, ◌+◌, ◌≡◌, ◌≢◌, ◌≤◌};
+ghost use Rattle.std.specs.Prelude.{IfErr, None, OnErr, OnOk, List, Some, [], cond, is_some, length, nat_le, true, ℕ, ◌&&◌, ◌+◌, ◌≡◌, ◌≢◌, ◌≤◌};
 
 use crate::arg_text::read_arg;
 use crate::{AppSpec, ConfigFault};
@@ -14,9 +14,9 @@ use std::alloc::{AllocError, Global};
 use std::collections::{BTreeMap, BTreeSet};
 use std::marker::Model;
 
-/// The most apps of a configuration.
+/// The most apps of a configuration: a bound that the scenario format sets.
 const MOST_APPS: usize = 256;
-/// The most links of a configuration.
+/// The most links of a configuration: a bound that the scenario format sets.
 const MOST_LINKS: usize = 512;
 
 /// Which apps there are, with their classes and arguments, and the links between them. At most 256
@@ -70,7 +70,8 @@ impl Config {
     ///
     /// # Errors
     /// Twice: an app of this name is there. BadArg: the class doesn't take this argument. TooMany:
-    /// 256 apps are there. In this order, else want of memory. The configuration is then as before.
+    /// 256 apps are there. In this order, else, where none of these comes, want of memory. The
+    /// configuration is then as before.
     pub fn add_app(
         &mut self,
         name: Name,
@@ -86,12 +87,15 @@ impl Config {
         }
         let arg = match read_arg(self.alloc, class, arg) {
             Ok(arg) => arg,
+            Err(ConfigFault::OutOfMemory) => return Err(memory_refusal(&self.apps)),
             Err(fault) => return Err(fault),
         };
         if self.apps.len() >= MOST_APPS {
             return Err(ConfigFault::TooMany);
         }
-        put_app(&mut self.apps, name, AppSpec { class, arg })?;
+        let Ok(()) = put_app(&mut self.apps, name, AppSpec { class, arg }) else {
+            return Err(ConfigFault::OutOfMemory);
+        };
         Ok(())
     }
 
@@ -99,12 +103,13 @@ impl Config {
     ///
     /// # Errors
     /// Twice: the link is there. NoSuchApp: one of its apps isn't. PortTaken: another link has the
-    /// same output port or the same input port. TooMany: 512 links are there. In this order, else
-    /// want of memory. The configuration is then as before.
+    /// same output port or the same input port. TooMany: 512 links are there. In this order, else,
+    /// where none of these comes, want of memory. The configuration is then as before.
     pub fn add_link(&mut self, link: LinkSpec) -> Result<(), ConfigFault>
         ensures ok { OnOk result (self.new ≡ with_link self.old link) }
         ensures allowed { OnOk result (link_fault self.old link ≡ None) }
         ensures refused { IfErr result (λ fault. fault ≢ ConfigFault.OutOfMemory → link_fault self.old link ≡ Some fault) }
+        ensures memory { IfErr result (λ fault. fault ≡ ConfigFault.OutOfMemory → link_fault self.old link ≡ None) }
         ensures err { OnErr result (self.new ≡ self.old) }
     {
         if let Some(fault) = link_refusal(&self.apps, &self.links, &link) {
@@ -113,6 +118,16 @@ impl Config {
         put_link(&mut self.links, link)?;
         Ok(())
     }
+}
+
+/// What want of memory for one more app is told as: there may be too many already.
+fn memory_refusal(apps: &BTreeMap<Name, AppSpec>) -> ConfigFault
+    ensures { result ≡ cond (nat_le 256 (length apps.now.entries)) ConfigFault.TooMany ConfigFault.OutOfMemory }
+{
+    if apps.len() >= MOST_APPS {
+        return ConfigFault::TooMany;
+    }
+    ConfigFault::OutOfMemory
 }
 
 /// Puts an app among others.

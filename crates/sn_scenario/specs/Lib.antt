@@ -1,4 +1,5 @@
 pub mod AppLines
+pub mod AppUses
 pub mod ConfigLines
 pub mod Cutting
 pub mod DraftView
@@ -11,6 +12,7 @@ pub mod Leaves
 pub mod LinkLines
 pub mod Parsing
 pub mod PlainText
+pub mod PlanLaws
 pub mod Plans
 pub mod Results
 pub mod ScenarioText

@@ -1,8 +1,11 @@
 -- Scenarios, and what holds of each.
-use Rattle.std.specs.Prelude.{All, AllPairs, Contains, IfSome, List, Option, count_by, length, ℕ, ◌*◌, ◌<◌, ◌≡◌, ◌≢◌, ◌≤◌}
+use Rattle.std.specs.Prelude.{All, AllPairs, Contains, IfSome, List, Option, count_by, length, true, ℕ, ◌*◌, ◌<◌, ◌≡◌, ◌≢◌, ◌≤◌}
 use Rattle.std.specs.List.Sorted.{IsStrictlySortedBy}
 use Rattle.sn_names.specs.LinkOrder.{name_cmp}
+use Rattle.sn_scenario.specs.AppUses.{EachUsed, UsedOnce, reads_file, receives_lane, transmits_lane, writes_file}
 use Rattle.sn_scenario.specs.ConfigLines.{of_worker}
+use Rattle.sn_scenario.specs.FileUses.{has_writer}
+use Rattle.sn_scenario.specs.LaneEnds.{leads_from, leads_to}
 use Rattle.sn_scenario.specs.declared.lane.Lane.{Lane}
 use Rattle.sn_scenario.specs.declared.placed.Placed.{Placed}
 use Rattle.sn_scenario.specs.declared.settings.Settings.{Settings}
@@ -50,10 +53,11 @@ pub record IsStop (workers : ℕ) (stop : StopLine) : Type 0 where
   pub entries : stop.entries ≤ 1000000000
   pub gates : stop.gates ≤ 1000000
 
--- the stops of a scenario
+-- the stops of a scenario, no two of them alike
 pub record AreStops (workers : ℕ) (stops : List StopLine) : Type 0 where
   pub few : length stops ≤ 1000
   pub each : All (IsStop workers) stops
+  pub once : AllPairs (λ a b. a ≢ b) stops
 
 -- the captures or the outputs of a scenario, rising bytewise, so that each stands once
 pub record AreFiles (names : List (List ℕ)) : Type 0 where
@@ -77,6 +81,26 @@ pub record ArePlaced (workers : ℕ) (placed : List Placed) : Type 0 where
   pub rising : AllPairs (λ a b. a.worker ≡ b.worker → a.round < b.round) placed
   pub few : (worker : ℕ) → count_by (of_worker worker) placed ≤ 64
 
+-- what the apps of a configuration use is the scenario's: a capture, an output, an end that is its
+-- worker's; each end and each written file stands once
+pub record IsServed (lanes : List Lane) (captures outputs : List (List ℕ)) (placed : Placed) : Type 0 where
+  pub reads : EachUsed reads_file (Contains captures) placed.config
+  pub writes : EachUsed writes_file (Contains outputs) placed.config
+  pub receives : EachUsed receives_lane (λ lane. leads_to lanes placed.worker lane ≡ true) placed.config
+  pub transmits : EachUsed transmits_lane (λ lane. leads_from lanes placed.worker lane ≡ true) placed.config
+  pub written_once : UsedOnce writes_file placed.config
+  pub received_once : UsedOnce receives_lane placed.config
+  pub transmitted_once : UsedOnce transmits_lane placed.config
+
+pub record AreServed (lanes : List Lane) (captures outputs : List (List ℕ)) (placed : List Placed) : Type 0 where
+  pub each : All (IsServed lanes captures outputs) placed
+
+-- an output belongs to one worker: those whose configurations write it are one
+abbrev pub HaveOneWriter : List Placed → Type 0
+HaveOneWriter placed =
+    (file : List ℕ) (a b : Placed) → Contains placed a → Contains placed b
+    → has_writer a.config.apps file ≡ true → has_writer b.config.apps file ≡ true → a.worker ≡ b.worker
+
 -- the parts of what holds of every scenario
 pub record HasBounds (scenario : ScenarioForm) : Type 0 where
   pub settings : AreBounded scenario.settings
@@ -86,6 +110,8 @@ pub record HasBounds (scenario : ScenarioForm) : Type 0 where
   pub outputs : AreFiles scenario.outputs
   pub uses : HaveOneUse scenario.journal scenario.captures scenario.outputs
   pub placed : ArePlaced scenario.settings.workers scenario.placed
+  pub served : AreServed scenario.lanes scenario.captures scenario.outputs scenario.placed
+  pub writers : HaveOneWriter scenario.placed
 
 -- what holds of every scenario; a proof that needs a part unfolds the word
 unfoldable pub IsBounded : ScenarioForm → Type 0

@@ -51,7 +51,7 @@ fn end_and_file(
 }
 
 /// Adds an app that isn't there, with an argument that was read from this text.
-#[tactic(auto, using(crate::proofs::Adding::added))]
+#[tactic(auto, using(crate::proofs::AppAddition::added))]
 fn add_app(
     config: &mut Config,
     name: Name,
@@ -98,7 +98,7 @@ fn take_app(
 }
 
 /// Reads an app's line after its first token.
-#[tactic(auto, using(crate::proofs::Adding::needs), unfolding(crate::specs::AppLines::app_line))]
+#[tactic(auto, using(crate::proofs::AppAddition::needs), unfolding(crate::specs::AppLines::app_line))]
 pub(crate) fn app_line(
     alloc: Global,
     journal: &Option<FileName>,

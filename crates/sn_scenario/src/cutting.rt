@@ -49,7 +49,7 @@ fn line_len(text: &[u8]) -> usize
 }
 
 /// The first line, without its line feed, and what follows it.
-#[tactic(auto, using(crate::proofs::Fronts::fronts))]
+#[tactic(auto, using(crate::proofs::LineFronts::fronts))]
 pub(crate) fn split_line(text: &[u8]) -> (&[u8], &[u8])
     ensures line { result.0.now ≡ front is_no_feed text.now }
     ensures rest { result.1.now ≡ drop 1 (behind is_no_feed text.now) }
@@ -72,7 +72,7 @@ pub(crate) fn without_return(line: &[u8]) -> &[u8]
 }
 
 /// What follows the blanks at the front.
-#[tactic(auto, using(crate::proofs::Fronts::fronts))]
+#[tactic(auto, using(crate::proofs::LineFronts::fronts))]
 fn after_blanks(text: &[u8]) -> &[u8]
     ensures { result.now ≡ behind is_blank text.now }
 {
@@ -81,7 +81,7 @@ fn after_blanks(text: &[u8]) -> &[u8]
 }
 
 /// The first token, or nothing where there is none, and what follows it.
-#[tactic(auto, using(crate::proofs::Fronts::fronts))]
+#[tactic(auto, using(crate::proofs::LineFronts::fronts))]
 pub(crate) fn split_token(line: &[u8]) -> (&[u8], &[u8])
     ensures token { result.0.now ≡ first_token line.now }
     ensures rest { result.1.now ≡ behind_token line.now }

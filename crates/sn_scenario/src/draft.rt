@@ -20,10 +20,10 @@ use crate::{Lane, Settings, StopLine, Why};
 use std::alloc::Global;
 use std::collections::{BTreeMap, BTreeSet};
 
-/// The most bytes of a line.
-const MOST_BYTES: usize = 1024;
-/// The most breaths of all rounds.
-const MOST_BREATHS: u64 = 100_000;
+/// The most bytes of a line that isn't skipped: a bound that the format sets.
+const MOST_LINE_BYTES: usize = 1024;
+/// The most breaths of all rounds, which bounds how long a run takes.
+const MOST_TURNS: u64 = 100_000;
 
 /// What was read so far.
 #[derive(Drop)]
@@ -70,7 +70,7 @@ impl Draft {
 pub(crate) fn is_over(settings: Settings) -> bool
     ensures { result ≡ is_over settings }
 {
-    u64::from(settings.rounds) * u64::from(settings.breaths) > MOST_BREATHS
+    u64::from(settings.rounds) * u64::from(settings.breaths) > MOST_TURNS
 }
 
 /// How many workers there are.
@@ -291,7 +291,7 @@ pub(crate) fn read_line(alloc: Global, draft: &mut Draft, line: &[u8]) -> Result
     if is_remark(word) {
         return Ok(());
     }
-    if line.len() > MOST_BYTES {
+    if line.len() > MOST_LINE_BYTES {
         return Err(LineFault::Bad(Why::Long));
     }
     if !is_plain(line) {

@@ -12,9 +12,9 @@ use sn_names::{Arg, Class, FileName};
 use std::alloc::{AllocError, Global};
 use std::collections::{BTreeMap, BTreeSet};
 
-/// The most captures.
+/// The most captures: a bound that the format sets.
 const MOST_CAPTURES: usize = 16;
-/// The most outputs.
+/// The most outputs: a bound that the format sets.
 const MOST_OUTPUTS: usize = 16;
 
 /// The captures, and the outputs with the worker of each.

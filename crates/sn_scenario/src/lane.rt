@@ -11,7 +11,7 @@ use crate::shape::three_tokens;
 use sn_names::Name;
 use std::alloc::Global;
 
-/// The most interlinks.
+/// The most interlinks: a bound that the format sets.
 const MOST_LANES: usize = 16;
 
 /// An interlink.

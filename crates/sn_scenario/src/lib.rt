@@ -2,6 +2,7 @@
 #![tactic(auto)]
 
 mod app_line;
+mod counts;
 mod cutting;
 mod draft;
 mod ends;
@@ -24,6 +25,7 @@ mod why;
 
 pub use fault::{ParseFault, ScenarioFault};
 pub use lane::Lane;
+pub use parse::MOST_SCENARIO_BYTES;
 pub use plain::plain_text;
 pub use scenario::Scenario;
 pub use settings::Settings;

@@ -7,6 +7,7 @@ ghost use Rattle.sn_scenario.specs.Scenarios.{IsBounded};
 ghost use Rattle.sn_scenario.specs.ScenarioText.{finish, form_of, lines_from, scenario_of};
 ghost use Rattle.std.specs.Prelude.{IfOk, Ok, length, map, ◌≡◌, ◌≤◌};
 
+use crate::counts::counts_of;
 use crate::cutting::{split_line, without_return};
 use crate::draft::{Draft, begin, read_line};
 use crate::fault::LineFault;
@@ -15,6 +16,10 @@ use crate::{ParseFault, Scenario, ScenarioFault, Why};
 use sn_names::FileName;
 use std::alloc::{AllocError, Global};
 use std::collections::{BTreeMap, BTreeSet};
+
+/// The most bytes of a scenario's text. Whoever reads one reads at most one byte more, and a line's
+/// number then fits any counter.
+pub const MOST_SCENARIO_BYTES: usize = 1_048_576;
 
 /// The fault of a line.
 fn at_line(line: u64, fault: LineFault) -> ParseFault
@@ -27,7 +32,7 @@ fn at_line(line: u64, fault: LineFault) -> ParseFault
 }
 
 /// Reads all lines of a text. What comes is the number of the line after the last.
-#[tactic(auto, using(crate::proofs::Lining::lining))]
+#[tactic(auto, using(crate::proofs::LineSequence::lining))]
 fn read_lines(alloc: Global, draft: &mut Draft, text: &[u8]) -> Result<u64, ParseFault>
     ensures { ReadsAll (reading_of draft.new) result (lines_from 1 (lines_of text.now) (reading_of draft.old)) }
 {
@@ -95,6 +100,7 @@ fn whole(alloc: Global, draft: Draft) -> Result<Scenario, LineFault>
     let Files { captures, outputs } = files;
     let captures = captures_of(alloc, captures)?;
     let outputs = outputs_of(alloc, outputs)?;
+    let counts = counts_of(alloc, &placed)?;
     Ok(Scenario {
         settings,
         lanes,
@@ -103,6 +109,7 @@ fn whole(alloc: Global, draft: Draft) -> Result<Scenario, LineFault>
         stops,
         captures,
         outputs,
+        counts,
     })
 }
 

@@ -7,11 +7,12 @@ ghost use Rattle.std.specs.Prelude.{count_by, ◌≡◌};
 use crate::Why;
 use crate::fault::LineFault;
 use crate::reading::{number_of, worker_of};
+use crate::settings::MOST_ROUNDS;
 use crate::shape::two_tokens;
 use sn_config::Config;
 use std::alloc::Global;
 
-/// The most configurations of a worker.
+/// The most configurations of a worker: a bound that the format sets.
 const MOST_CONFIGS: usize = 64;
 
 /// A configuration, and where it is due.
@@ -53,7 +54,7 @@ pub(crate) fn config_line(
 {
     let (worker, round) = two_tokens(text)?;
     let worker = worker_of(worker, workers)?;
-    let round = number_of(round, 0, 100_000)?;
+    let round = number_of(round, 0, MOST_ROUNDS)?;
     if has_later(placed, worker, round) {
         return Err(LineFault::Bad(Why::Order));
     }

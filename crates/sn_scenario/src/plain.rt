@@ -24,7 +24,7 @@ fn push_tokens(into: &mut Vec<u8>, text: &[u8]) -> Result<(), AllocError>
 }
 
 /// The link that a text spells, if it spells one.
-#[tactic(auto, using(crate::proofs::Running::link_found))]
+#[tactic(auto, using(crate::proofs::TokenRuns::link_found))]
 fn some_link(alloc: Global, text: &[u8]) -> Result<Option<LinkSpec>, AllocError>
     ensures { IfOk result (λ link. link ≡ link_of text.now) }
 {
@@ -71,7 +71,7 @@ fn push_line(alloc: Global, into: &mut Vec<u8>, line: &[u8]) -> Result<(), Alloc
 ///
 /// # Errors
 /// Want of memory.
-#[tactic(auto, using(crate::proofs::Lining::lining))]
+#[tactic(auto, using(crate::proofs::LineSequence::lining))]
 pub fn plain_text(alloc: Global, text: &[u8]) -> Result<Vec<u8>, AllocError>
     ensures { IfOk result (λ plain. plain.items ≡ plain_text text.now) }
 {

@@ -17,7 +17,7 @@ use std::alloc::Global;
 const MOST_FILE_BYTES: usize = 255;
 
 /// The number that a token writes within these bounds.
-#[tactic(auto, using(crate::proofs::Leaving::numbers))]
+#[tactic(auto, using(crate::proofs::TokenReadings::numbers))]
 pub(crate) fn number_in(token: &[u8], low: u64, high: u64) -> Option<u64>
     ensures exact { result ≡ number_in low high token.now }
     ensures within { IfSome result (λ n. n ≤ high) }
@@ -52,7 +52,7 @@ pub(crate) fn worker_of(token: &[u8], workers: u32) -> Result<u32, LineFault>
 }
 
 /// The name that a token is.
-#[tactic(auto, using(crate::proofs::Leaving::names))]
+#[tactic(auto, using(crate::proofs::TokenReadings::names))]
 pub(crate) fn name_of(alloc: Global, token: &[u8]) -> Result<Name, LineFault>
     ensures { Gives (λ n. n) result (named token.now) }
 {
@@ -64,7 +64,7 @@ pub(crate) fn name_of(alloc: Global, token: &[u8]) -> Result<Name, LineFault>
 }
 
 /// The file's name that a token is.
-#[tactic(auto, using(crate::proofs::Leaving::files))]
+#[tactic(auto, using(crate::proofs::TokenReadings::files))]
 pub(crate) fn file_of(alloc: Global, token: &[u8]) -> Result<FileName, LineFault>
     ensures { Gives (λ n. n) result (filed token.now) }
 {
@@ -100,7 +100,7 @@ fn may_name_file(byte: u8) -> bool
 }
 
 /// The class of this word.
-#[tactic(auto, using(crate::proofs::Leaving::classes))]
+#[tactic(auto, using(crate::proofs::TokenReadings::classes))]
 pub(crate) fn class_of(token: &[u8]) -> Result<Class, LineFault>
     ensures { Gives (λ c. c) result (needed fault.Class (class_of token.now)) }
 {
@@ -111,7 +111,7 @@ pub(crate) fn class_of(token: &[u8]) -> Result<Class, LineFault>
 }
 
 /// The argument that a class takes of what is written behind it, if anything is.
-#[tactic(auto, using(crate::proofs::Leaving::arguments))]
+#[tactic(auto, using(crate::proofs::TokenReadings::arguments))]
 pub(crate) fn arg_of(alloc: Global, class: Class, text: Option<&[u8]>) -> Result<Arg, LineFault>
     ensures { Gives (λ a. a) result (needed fault.Arg (arg_of class (option_copied text.entry))) }
 {
@@ -123,7 +123,7 @@ pub(crate) fn arg_of(alloc: Global, class: Class, text: Option<&[u8]>) -> Result
 }
 
 /// The link that a text spells.
-#[tactic(auto, using(crate::proofs::Running::link_found))]
+#[tactic(auto, using(crate::proofs::TokenRuns::link_found))]
 pub(crate) fn link_of(alloc: Global, text: &[u8]) -> Result<LinkSpec, LineFault>
     ensures { Gives (λ l. l) result (needed fault.Link (link_of text.now)) }
 {

@@ -1,5 +1,5 @@
 //! Scenarios, and what they say.
-ghost use Rattle.sn_scenario.specs.Scenarios.{AreBounded, AreFiles, AreLanes, AreStops, HaveOneUse};
+ghost use Rattle.sn_scenario.specs.Scenarios.{AreBounded, AreFiles, AreLanes, AreServed, AreStops, HaveOneUse, HaveOneWriter};
 ghost use Rattle.std.specs.Option.{option_copied};
 ghost use Rattle.std.specs.Prelude.{◌≡◌};
 
@@ -19,16 +19,19 @@ pub struct Scenario {
     pub(crate) stops: Vec<StopLine>,
     pub(crate) captures: Vec<FileName>,
     pub(crate) outputs: Vec<FileName>,
+    // how many actions each configuration has
+    pub(crate) counts: Vec<u32>,
 }
 
 impl Model for Scenario {
+    ghost use Rattle.sn_scenario.specs.PlanLaws.{AreCounts};
     ghost use Rattle.sn_scenario.specs.Scenarios.{IsBounded, ScenarioForm};
 
     ghost Value = { ScenarioForm };
 
     ghost view = { λ s. record { settings = s.settings; lanes = s.lanes.items; journal = s.journal; placed = s.placed.items; stops = s.stops.items; captures = s.captures.items; outputs = s.outputs.items } };
 
-    ghost invariant = { λ s. IsBounded (record { settings = s.settings; lanes = s.lanes.items; journal = s.journal; placed = s.placed.items; stops = s.stops.items; captures = s.captures.items; outputs = s.outputs.items }) };
+    ghost invariant = { λ s. IsBounded (record { settings = s.settings; lanes = s.lanes.items; journal = s.journal; placed = s.placed.items; stops = s.stops.items; captures = s.captures.items; outputs = s.outputs.items }) × AreCounts s.placed.items s.counts.items };
 }
 
 impl Scenario {
@@ -46,6 +49,7 @@ impl Scenario {
     pub fn lanes(&self) -> &[Lane]
         ensures same { result.now ≡ self.now.lanes }
         ensures bounds { AreLanes self.now.settings.workers self.now.lanes }
+        ensures served { AreServed self.now.lanes self.now.captures self.now.outputs self.now.placed }
     {
         &self.lanes
     }
@@ -66,6 +70,7 @@ impl Scenario {
         ensures same { result.now ≡ self.now.outputs }
         ensures bounds { AreFiles self.now.outputs }
         ensures uses { HaveOneUse self.now.journal self.now.captures self.now.outputs }
+        ensures writers { HaveOneWriter self.now.placed }
     {
         &self.outputs
     }

@@ -13,6 +13,27 @@ use crate::shape::one_token;
 use sn_names::FileName;
 use std::alloc::Global;
 
+/// The most packets of a pool. Their buffers of 10,240 bytes come to 160 MiB.
+const MOST_POOL: u32 = 16_384;
+/// The most workers: a bound that the format sets.
+const MOST_WORKERS: u32 = 16;
+/// The most breaths of a round: a bound that the format sets.
+const MOST_BREATHS: u32 = 1000;
+/// The most rounds. A configuration may name any of them.
+pub(crate) const MOST_ROUNDS: u32 = 100_000;
+/// The most restarts of a worker: a bound that the format sets.
+const MOST_RESTARTS: u32 = 1000;
+/// The pool where none is given: 40 MiB of buffers.
+const DEFAULT_POOL: u32 = 4096;
+/// The workers where none are given.
+const DEFAULT_WORKERS: u32 = 1;
+/// The breaths of a round where none are given.
+const DEFAULT_BREATHS: u32 = 100;
+/// The rounds where none are given.
+const DEFAULT_ROUNDS: u32 = 10;
+/// The restarts where none are given.
+const DEFAULT_RESTARTS: u32 = 0;
+
 /// How large a run is.
 #[derive(Clone, Copy, Debug, PartialEq, Eq)]
 pub struct Settings {
@@ -80,11 +101,26 @@ pub(crate) fn setting_line(
     ensures { Leaves given.new result (setting_line setting given.old (tokens text.now)) }
 {
     match setting {
-        Setting::Pool => given.pool = Some(number_line(text, given.pool, 1, 16_384)?),
-        Setting::Workers => given.workers = Some(number_line(text, given.workers, 1, 16)?),
-        Setting::Breaths => given.breaths = Some(number_line(text, given.breaths, 1, 1000)?),
-        Setting::Rounds => given.rounds = Some(number_line(text, given.rounds, 1, 100_000)?),
-        Setting::Restarts => given.restarts = Some(number_line(text, given.restarts, 0, 1000)?),
+        Setting::Pool => given.pool = Some(number_line(text, given.pool, 1, MOST_POOL)?),
+        Setting::Workers => given.workers = Some(number_line(
+            text,
+            given.workers,
+            1,
+            MOST_WORKERS,
+        )?),
+        Setting::Breaths => given.breaths = Some(number_line(
+            text,
+            given.breaths,
+            1,
+            MOST_BREATHS,
+        )?),
+        Setting::Rounds => given.rounds = Some(number_line(text, given.rounds, 1, MOST_ROUNDS)?),
+        Setting::Restarts => given.restarts = Some(number_line(
+            text,
+            given.restarts,
+            0,
+            MOST_RESTARTS,
+        )?),
         Setting::Journal => given.journal = Some(journal_line(alloc, text, &given.journal)?),
     }
     Ok(())
@@ -96,11 +132,11 @@ impl Given {
         ensures { result ≡ settings_of self.now }
     {
         Settings {
-            pool: self.pool.unwrap_or(4096),
-            workers: self.workers.unwrap_or(1),
-            breaths: self.breaths.unwrap_or(100),
-            rounds: self.rounds.unwrap_or(10),
-            restarts: self.restarts.unwrap_or(0),
+            pool: self.pool.unwrap_or(DEFAULT_POOL),
+            workers: self.workers.unwrap_or(DEFAULT_WORKERS),
+            breaths: self.breaths.unwrap_or(DEFAULT_BREATHS),
+            rounds: self.rounds.unwrap_or(DEFAULT_ROUNDS),
+            restarts: self.restarts.unwrap_or(DEFAULT_RESTARTS),
         }
     }
 }

@@ -11,7 +11,7 @@ use crate::cutting::split_token;
 use crate::fault::LineFault;
 
 /// The next token, and what follows it.
-#[tactic(auto, using(crate::proofs::Running::cuts))]
+#[tactic(auto, using(crate::proofs::TokenRuns::cuts))]
 pub(crate) fn next_token(text: &[u8]) -> Result<(&[u8], &[u8]), LineFault>
     ensures cut { IfOk result (λ c. tokens text.now ≡ c.0.now ∷ tokens c.1.now) }
     ensures none { IfErr result (λ e. tokens text.now ≡ []) }

@@ -9,8 +9,12 @@ use crate::fault::LineFault;
 use crate::reading::{number_of, worker_of};
 use crate::shape::three_tokens;
 
-/// The most stops.
+/// The most stops: a bound that the format sets.
 const MOST_STOPS: usize = 1000;
+/// The most entries before a stop. No run's journal has so many.
+const MOST_ENTRIES: u32 = 1_000_000_000;
+/// The most gates behind an entry.
+const MOST_GATES: u32 = 1_000_000;
 
 /// A stop of a worker: at a gate, after so many entries of its journal.
 #[derive(Clone, Copy, Debug, PartialEq, Eq)]
@@ -48,8 +52,8 @@ pub(crate) fn stop_line(
 {
     let (worker, entries, gates) = three_tokens(text)?;
     let worker = worker_of(worker, workers)?;
-    let entries = number_of(entries, 0, 1_000_000_000)?;
-    let gates = number_of(gates, 0, 1_000_000)?;
+    let entries = number_of(entries, 0, MOST_ENTRIES)?;
+    let gates = number_of(gates, 0, MOST_GATES)?;
     let stop = StopLine {
         worker,
         entries: u64::from(entries),

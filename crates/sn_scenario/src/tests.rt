@@ -3,9 +3,6 @@ use super::*;
 use std::alloc::Global;
 use std::test::Fail;
 
-/// The most bytes of a scenario.
-const MOST_BYTES: usize = 1_048_576;
-
 /// Two configurations, of which the second replaces an app.
 const REPLACED: &[u8] = b"scenario 1
 config 0 0
@@ -118,7 +115,7 @@ const FAULTY: [(&[u8], u64, Why); 21] = [
 ];
 
 fn fault_of(alloc: Global, text: &[u8]) -> Option<ScenarioFault> {
-    if text.len() > MOST_BYTES {
+    if text.len() > MOST_SCENARIO_BYTES {
         return None;
     }
     match Scenario::parse(alloc, text) {
@@ -127,31 +124,31 @@ fn fault_of(alloc: Global, text: &[u8]) -> Option<ScenarioFault> {
     }
 }
 
-/// A line of these words and as many further bytes.
-fn long_text(alloc: Global, words: &[u8], count: usize) -> Result<Vec<u8>, Fail> {
+/// A scenario's first line, these words, and one byte so often.
+fn long_text(alloc: Global, words: &[u8], byte: u8, count: usize) -> Result<Vec<u8>, Fail> {
     let mut text = b"scenario 1\n".to_vec(alloc)?;
     text.extend_from_slice(words)?;
     for _ in 0..count {
-        text.push(b'1')?;
+        text.push(byte)?;
     }
     Ok(text)
 }
 
 #[test]
-fn finds_each_fault_and_its_line(rt: HostRuntime) -> Result<(), Fail> {
+fn each_fault_is_found_on_its_line(rt: HostRuntime) -> Result<(), Fail> {
     for (text, line, why) in FAULTY {
         assert_eq!(rt;
             fault_of(rt.alloc(), text),
             Some(ScenarioFault { line, why })
         );
     }
-    let long = long_text(rt.alloc(), b"pool ", 1020)?;
+    let long = long_text(rt.alloc(), b"pool ", b'1', 1020)?;
     let why = Why::Long;
     assert_eq!(rt;
         fault_of(rt.alloc(), &long),
         Some(ScenarioFault { line: 2, why })
     );
-    let file = long_text(rt.alloc(), b"journal ", 256)?;
+    let file = long_text(rt.alloc(), b"journal ", b'1', 256)?;
     let why = Why::FileBad;
     assert_eq!(rt;
         fault_of(rt.alloc(), &file),
@@ -162,8 +159,8 @@ fn finds_each_fault_and_its_line(rt: HostRuntime) -> Result<(), Fail> {
 }
 
 #[test]
-fn reads_defaults_and_takes_a_link_once(rt: HostRuntime) -> Result<(), Fail> {
-    assert!(rt; ONCE.len() < MOST_BYTES);
+fn settings_that_are_not_given_have_their_defaults(rt: HostRuntime) -> Result<(), Fail> {
+    assert!(rt; ONCE.len() < MOST_SCENARIO_BYTES);
     let once = Scenario::parse(rt.alloc(), ONCE)?;
     assert!(rt; once.stops().is_empty());
     let scenario = Scenario::parse(rt.alloc(), b"scenario 1\n")?;
@@ -184,8 +181,8 @@ fn reads_defaults_and_takes_a_link_once(rt: HostRuntime) -> Result<(), Fail> {
 }
 
 #[test]
-fn plans_a_replaced_app(rt: HostRuntime) -> Result<(), Fail> {
-    assert!(rt; REPLACED.len() < MOST_BYTES);
+fn an_app_that_is_replaced_is_planned_and_due(rt: HostRuntime) -> Result<(), Fail> {
+    assert!(rt; REPLACED.len() < MOST_SCENARIO_BYTES);
     let scenario = Scenario::parse(rt.alloc(), REPLACED)?;
     let settings = scenario.settings();
     assert!(rt; settings.workers > 0);
@@ -195,5 +192,21 @@ fn plans_a_replaced_app(rt: HostRuntime) -> Result<(), Fail> {
     let roster = scenario.roster(rt.alloc(), 0)?;
     assert_eq!(rt; roster.apps.len(), 3);
     assert_eq!(rt; roster.links.len(), 2);
+    Ok(())
+}
+
+#[test]
+fn the_longest_text_is_read_and_a_fault_far_down_is_found(rt: HostRuntime) -> Result<(), Fail> {
+    let longest = long_text(rt.alloc(), b"", b'\n', MOST_SCENARIO_BYTES - 11)?;
+    assert!(rt; longest.len() <= MOST_SCENARIO_BYTES);
+    let scenario = Scenario::parse(rt.alloc(), &longest)?;
+    assert!(rt; scenario.stops().is_empty());
+    let mut faulty = long_text(rt.alloc(), b"", b'\n', 2000)?;
+    faulty.extend_from_slice(b"pool 0\n")?;
+    let why = Why::Number;
+    assert_eq!(rt;
+        fault_of(rt.alloc(), &faulty),
+        Some(ScenarioFault { line: 2002, why })
+    );
     Ok(())
 }

@@ -1,4 +1,4 @@
-use Rattle.sn_actions.proofs.Joined.{joined}
+use Rattle.sn_actions.proofs.ActionLists.{joined}
 use Rattle.sn_actions.proofs.differences.list_actions.Goals as goal
 
 pub returns : goal.returns

@@ -1,5 +1,5 @@
 use Rattle.std.proofs.Common.{ap, is_some, sym, ◌∙◌}
-use Rattle.sn_actions.proofs.Maps.{get_entries}
+use Rattle.sn_actions.proofs.FiniteMaps.{get_entries}
 use Rattle.sn_names.specs.LinkOrder.{name_cmp_total}
 use Rattle.sn_actions.proofs.kept.has_app.Goals as goal
 

@@ -1,4 +1,4 @@
-use Rattle.sn_actions.proofs.Maps.{set_inserted}
+use Rattle.sn_actions.proofs.FiniteMaps.{set_inserted}
 use Rattle.sn_names.specs.LinkOrder.{exact_links, link_cmp_total}
 use Rattle.sn_actions.proofs.kept.put_link.Goals as goal
 

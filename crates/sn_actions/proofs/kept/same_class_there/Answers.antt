@@ -1,6 +1,6 @@
 use Rattle.std.proofs.Common.{Bool, Option, Some, ap, sym, ◌∙◌}
 use Rattle.std.specs.Option.{option_map}
-use Rattle.sn_actions.proofs.Maps.{get_entries}
+use Rattle.sn_actions.proofs.FiniteMaps.{get_entries}
 use Rattle.sn_actions.specs.Same.{same_class}
 use Rattle.sn_config.specs.declared.app_spec.AppSpec.{AppSpec}
 use Rattle.sn_names.specs.LinkOrder.{name_cmp_total}

@@ -1,4 +1,4 @@
-use Rattle.sn_actions.proofs.Maps.{removed}
+use Rattle.sn_actions.proofs.FiniteMaps.{removed}
 use Rattle.sn_names.specs.LinkOrder.{exact_names, name_cmp_total}
 use Rattle.sn_actions.proofs.kept.take_app.Goals as goal
 

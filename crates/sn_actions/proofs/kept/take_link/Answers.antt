@@ -1,4 +1,4 @@
-use Rattle.sn_actions.proofs.Maps.{set_removed}
+use Rattle.sn_actions.proofs.FiniteMaps.{set_removed}
 use Rattle.sn_names.specs.LinkOrder.{exact_links, link_cmp_total}
 use Rattle.sn_actions.proofs.kept.take_link.Goals as goal
 

@@ -2,7 +2,7 @@ use Rattle.std.proofs.Common.{List, ap, rules, ℕ, ◌∙◌, not}
 use Rattle.std.proofs.lemmas.Map.Made.{filter_same_pairs}
 use Rattle.std.specs.BTreeMap.{is_at}
 use Rattle.std.specs.Map.{lookup}
-use Rattle.sn_actions.proofs.Maps.{lookup_filter, retained}
+use Rattle.sn_actions.proofs.FiniteMaps.{lookup_filter, retained}
 use Rattle.sn_config.specs.Configs.{same_name}
 use Rattle.sn_names.specs.LinkOrder.{exact_ports, port_cmp, port_cmp_total}
 use Rattle.sn_actions.proofs.ports.drop_ports.Goals as goal

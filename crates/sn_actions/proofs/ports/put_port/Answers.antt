@@ -1,4 +1,4 @@
-use Rattle.sn_actions.proofs.Maps.{inserted}
+use Rattle.sn_actions.proofs.FiniteMaps.{inserted}
 use Rattle.sn_names.specs.LinkOrder.{exact_ports, port_cmp_total}
 use Rattle.sn_actions.proofs.ports.put_port.Goals as goal
 

@@ -1,4 +1,4 @@
-use Rattle.sn_config.proofs.Written.{other_byte, other_place}
+use Rattle.sn_config.proofs.UniqueArguments.{other_byte, other_place}
 use Rattle.sn_config.proofs.arg_text.byte_arg.Goals as goal
 
 pub returns-in_default-decimal-clause-refused : goal.returns-in_default-decimal-clause-refused

@@ -1,5 +1,5 @@
 use Rattle.std.proofs.Common.{arith}
-use Rattle.sn_config.proofs.Written.{one_number}
+use Rattle.sn_config.proofs.UniqueArguments.{one_number}
 use Rattle.sn_config.proofs.arg_text.number_arg.Goals as goal
 
 pub returns-then-number-low-clause-refused : goal.returns-then-number-low-clause-refused

@@ -1,5 +1,5 @@
 use Rattle.std.specs.Option.{option_copied}
-use Rattle.sn_scenario.proofs.Adding.{app_added_full, no_bad_arg}
+use Rattle.sn_scenario.proofs.AppAddition.{app_added_full, no_bad_arg}
 use Rattle.sn_scenario.proofs.app_line.add_app.Goals as goal
 
 pub returns-in-Err-TooMany : goal.returns-in-Err-TooMany

@@ -1,7 +1,7 @@
 use Rattle.std.proofs.Common.{sym, ◌∙◌}
 use Rattle.sn_scenario.specs.Cutting.{tokens}
 use Rattle.sn_scenario.specs.FileView.{files_form}
-use Rattle.sn_scenario.proofs.Adding.{app_line_leaves}
+use Rattle.sn_scenario.proofs.AppAddition.{app_line_leaves}
 use Rattle.sn_scenario.proofs.app_line.app_line.Goals as goal
 
 pub returns : goal.returns

@@ -1,7 +1,7 @@
 use Rattle.std.proofs.Common.{arith, length, ◌<◌}
 use Rattle.std.proofs.lemmas.Bool.Decides.{nat_tests}
 use Rattle.sn_scenario.specs.DraftView.{reading_of}
-use Rattle.sn_scenario.proofs.Lining.{read_refused}
+use Rattle.sn_scenario.proofs.LineSequence.{read_refused}
 use Rattle.sn_scenario.proofs.parse.read_lines.Goals as goal
 
 pub returns-in-Err : goal.returns-in-Err

@@ -1,6 +1,6 @@
 use Rattle.std.proofs.Common.{arith, length, ◌<◌, ◌≡◌}
 use Rattle.std.proofs.lemmas.Bool.Decides.{nat_tests}
-use Rattle.sn_scenario.proofs.Spelling.{spelled_end, spelled_next}
+use Rattle.sn_scenario.proofs.PlainSpelling.{spelled_end, spelled_next}
 use Rattle.sn_scenario.proofs.plain.plain_text.Goals as goal
 
 pub loop-rest-preserved : goal.loop-rest-preserved

@@ -1,5 +1,5 @@
 use Rattle.std.proofs.Common.{sym}
-use Rattle.sn_scenario.proofs.Running.{link_none}
+use Rattle.sn_scenario.proofs.TokenRuns.{link_none}
 use Rattle.sn_scenario.proofs.plain.some_link.Goals as goal
 
 pub returns-in-Err-At : goal.returns-in-Err-At

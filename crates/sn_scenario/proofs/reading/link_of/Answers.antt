@@ -1,5 +1,5 @@
 use Rattle.std.proofs.Common.{ap}
-use Rattle.sn_scenario.proofs.Running.{link_none}
+use Rattle.sn_scenario.proofs.TokenRuns.{link_none}
 use Rattle.sn_scenario.specs.Results.{needed}
 use Rattle.sn_scenario.specs.declared.why.Why.TheVariants as fault
 use Rattle.sn_scenario.proofs.reading.link_of.Goals as goal

@@ -1,5 +1,5 @@
 use Rattle.std.proofs.Common.{sym, ◌∙◌}
-use Rattle.sn_config.proofs.Valid.{with_link_valid}
+use Rattle.sn_config.proofs.Validity.{with_link_valid}
 use Rattle.sn_config.proofs.config.Config.add_link.Goals as goal
 
 pub invariant_of-self-2 : goal.invariant_of-self-2

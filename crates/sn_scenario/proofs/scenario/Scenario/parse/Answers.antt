@@ -2,7 +2,7 @@ use Rattle.std.proofs.Common.{ap, sym, ◌∙◌}
 use Rattle.sn_scenario.specs.Cutting.{lines_of}
 use Rattle.sn_scenario.specs.DraftView.{reading_of}
 use Rattle.sn_scenario.specs.ScenarioText.{lines_from}
-use Rattle.sn_scenario.proofs.Bounding.{end_bounded}
+use Rattle.sn_scenario.proofs.ScenarioBounds.{end_bounded}
 use Rattle.sn_scenario.proofs.scenario.Scenario.parse.Goals as goal
 
 pub finish-requires : goal.finish-requires
