@@ -95,13 +95,9 @@ fn write_file<R: rt::Files>(rt: &R, path: &str, bytes: &[u8]) -> Result<(), File
 }
 
 impl<'a, R: rt::Files> Files for RealFiles<'a, R> {
-    ghost faults = { λ f. f.faults };
-
     ghost tells = { false };
 
-    ghost contents = { λ _. contents_of [] };
-
-    ghost calls = { λ _. [] };
+    ghost state = { λ f. record { contents = contents_of []; calls = []; faults = f.faults } };
 
     fn read(&mut self, name: &FileName, limit: u64, into: &mut Vec<u8>) -> Result<(), FileFault> {
         let answer = read_file(self.rt, name.as_str(), limit, into);

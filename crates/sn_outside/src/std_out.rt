@@ -38,11 +38,9 @@ fn print_some<R: Print>(rt: &R, bytes: &[u8]) -> Option<usize>
 }
 
 impl<'a, R: Print> Sink for StdOut<'a, R> {
-    ghost faults = { λ s. s.faults };
-
     ghost tells = { false };
 
-    ghost taken = { λ _. [] };
+    ghost state = { λ s. record { taken = []; faults = s.faults } };
 
     fn write(&mut self, bytes: &[u8]) -> Result<usize, SinkFault> {
         match print_some(self.rt, bytes) {
