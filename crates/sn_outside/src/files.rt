@@ -50,8 +50,8 @@ pub trait Files {
     /// Makes these bytes the file's content, and leaves all others as they are.
     ///
     /// # Errors
-    /// `Failed` where the system refuses, only where the count of faults rose: the file then holds
-    /// anything. Want of memory leaves it as it was.
+    /// `Failed` where the system refuses, only where the count of faults rose: the file then may
+    /// hold anything. Want of memory leaves it as it was.
     fn write(&mut self, name: &FileName, bytes: &[u8]) -> Result<(), FileFault>
         ensures cause { HasCause (state self.old) (state self.new) result }
         ensures never_long { result ≡ Err TooLong → ⊥ }
