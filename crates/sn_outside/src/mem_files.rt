@@ -26,13 +26,13 @@ pub struct MemFiles {
 }
 
 impl Model for MemFiles {
-    ghost use Rattle.sn_outside.specs.Memory.{Memory};
+    ghost use Rattle.sn_outside.specs.Memory.{MemFilesView};
     ghost use Rattle.sn_outside.specs.Contents.{contents_code, contents_of};
     ghost use Rattle.sn_outside.specs.contracts.files.FileCall as call;
     ghost use Rattle.std.specs.Coded.{codes};
     ghost use Rattle.std.specs.Prelude.{map as each};
 
-    ghost Value = { Memory };
+    ghost Value = { MemFilesView };
 
     ghost coded = { Prim.hlevel (codes, contents_code, call.the_row.coded) };
 

@@ -21,10 +21,10 @@ pub struct MemSink {
 }
 
 impl Model for MemSink {
-    ghost use Rattle.sn_outside.specs.Memory.{Shelf};
+    ghost use Rattle.sn_outside.specs.Memory.{MemSinkView};
     ghost use Rattle.std.specs.Prelude.{vec_len, vec_capacity, ◌<◌, ◌≤◌};
 
-    ghost Value = { Shelf };
+    ghost Value = { MemSinkView };
 
     ghost view = { λ s. record {
       state = record { taken = s.taken.items; faults = s.faults };
