@@ -1,4 +1,5 @@
 //! A file system for tests: the real one, but its files take few bytes at a time, and only so many.
+//! Where they take none, no file gets another name.
 use std::alloc::Allocator;
 use std::fs::{Metadata, OpenFile, OpenOptions};
 use std::io::{ErrorKind, Read, Seek, SeekFrom, Write};
@@ -100,6 +101,9 @@ impl<'a, R: rt::Files> rt::Files for FullDisk<'a, R> {
     }
 
     fn rename(&self, from: &str, to: &str) -> io::Result<()> {
+        if self.room == 0 {
+            return Err(io::Error::from(self.fault));
+        }
         self.rt.rename(from, to)
     }
 

@@ -154,6 +154,16 @@ fn a_failed_write_leaves_the_old_file(rt: HostRuntime) -> Result<(), Fail> {
         files.write(&new, b"twenty-one bytes here"),
         Err(FileFault::Failed)
     );
+    let disk = FullDisk {
+        rt: &rt,
+        room: 0,
+        fault: ErrorKind::OutOfMemory,
+    };
+    let unnamed = (disk, alloc);
+    assert_eq!(rt;
+        RealFiles::new(&unnamed).write(&old, b""),
+        Err(FileFault::Failed)
+    );
     let kept = held(alloc, &mut files, &old)?;
     assert_eq!(rt; kept.as_slice(), b"twenty bytes at most".as_slice());
     // The folder has no other file.
