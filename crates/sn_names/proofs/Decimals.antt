@@ -1,5 +1,5 @@
 -- What std's parse of a text says of decimal digits.
-use Rattle.std.proofs.Common.{Err, List, Ok, Result, arith, get_or, length, ℕ, ◌≡◌, ◌≢◌, ◌<◌, ◌^◌, ◌∙◌, sym, ap, lit<, suc, zero}
+use Rattle.std.proofs.Common.{Err, List, Ok, Result, arith, refl, ◌≤◌, get_or, length, ℕ, ◌≡◌, ◌≢◌, ◌<◌, ◌^◌, ◌∙◌, sym, ap, lit<, suc, zero}
 use Rattle.std.proofs.lemmas.Fmt.{decimal-digits_value, decimal_is_IsNumeral, decimal_digit, decimal_nonempty, first_decimal, length-decimal-le, parse-decimal, IsAscii-decimal}
 use Rattle.std.proofs.lemmas.Str.{IsUtf8-from_ascii}
 use Rattle.std.proofs.lemmas.Str.Parse.{IsNumeralModel, digit_at, numerals_by_value, parse_plain, tells_digits}
@@ -50,3 +50,7 @@ utf8_digits bs max n h d =
 pub ruleset digits_begin = (first_digit, one_zero, decimal_nonempty)
 
 pub ruleset digits_parse = (utf8_digits, first_digit)
+
+-- the digits of a number of at most ten are read back
+pub reads_back : (n max : ℕ) → n < 2 ^ 64 → n < 10 ^ 10 → n ≤ max → IsDecimal (decimal n) max n
+reads_back n max h short within = record { digits = refl; short = length-decimal-le 10 n (omega arith) short h; within = within }

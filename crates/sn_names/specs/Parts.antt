@@ -1,5 +1,5 @@
 -- How far a text goes on as the parts of a form, byte by byte.
-use Rattle.std.specs.Prelude.{Bool, List, None, Option, Some, [], cond, false, length, suc, true, zero, ℕ, ◌==◌, ◌∷◌}
+use Rattle.std.specs.Prelude.{Bool, List, None, Option, Some, [], cond, false, length, suc, true, zero, ℕ, ◌-◌, ◌==◌, ◌∷◌, ◌≡◌}
 use Rattle.sn_names.specs.NameText.{is_name_byte}
 
 -- a given byte, one byte of a name, at most so many further ones, or any number of spaces
@@ -31,6 +31,10 @@ ends (Spaces ∷ parts) = ends parts
 abbrev pub left : List Part → List ℕ → Option ℕ
 left parts [] = cond (ends parts) None (Some 0)
 left parts (x ∷ xs) = elim (after parts x) [ None ↦ Some (suc (length xs)) | Some further ↦ left further xs ]
+
+-- the text goes on as the parts up to this place, and the bytes from there on are left
+abbrev pub LeavesFrom : List Part → List ℕ → ℕ → Type 0
+LeavesFrom parts text at = left parts text ≡ Some (length text - at)
 
 -- whether a text begins with a byte that passes
 abbrev pub starts : (ℕ → Bool) → List ℕ → Bool

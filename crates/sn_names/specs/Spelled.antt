@@ -32,4 +32,6 @@ pub record IsLinkOf (text from out to input : List ℕ) : Type 0 where
   pub left : ℕ
   pub right : ℕ
   pub after : ℕ
-  pub spelled : text ≡ spaces before ++ (port_text from out ++ (spaces left ++ (45 ∷ 62 ∷ (spaces right ++ (port_text to input ++ spaces after)))))
+  pub spelled :
+      text ≡ spaces before ++ (port_text from out
+      ++ (spaces left ++ (45 ∷ 62 ∷ (spaces right ++ (port_text to input ++ spaces after)))))

@@ -1,13 +1,13 @@
 //! Numbers in decimal digits.
 ghost use Rattle.sn_names.specs.DecimalText.{IsDecimal};
 ghost use Rattle.std.specs.Fmt.{decimal as digits_of};
-ghost use Rattle.std.specs.Prelude.{IfNone, IfSome, IsTrue, OnErr, OnOk, false, length, slice_index, ℕ, ◌++◌, ◌<◌, ◌^◌, ◌≡◌, ◌≢◌};
+ghost use Rattle.std.specs.Prelude.{IfNone, IfSome, IsTrue, OnErr, OnOk, false, length, slice_index, ℕ, ◌++◌, ◌<◌, ◌^◌, ◌≡◌, ◌≢◌, ◌≤◌};
 
 use itoa::Buffer;
 use std::alloc::AllocError;
 use std::str;
 
-/// The most digits that a number has.
+/// The most digits that a number has: enough for each u32, and the number is then below 2 ^ 64.
 const MOST_DIGITS: usize = 10;
 
 /// The number that a text of 1 to 10 decimal digits writes, without a sign and without a leading
@@ -16,6 +16,7 @@ const MOST_DIGITS: usize = 10;
 pub fn decimal(text: &[u8], max: u64) -> Option<u64>
     ensures found { IfSome result (λ n. IsDecimal text.now max n) }
     ensures none { IfNone result ((n : ℕ) → IsDecimal text.now max n → ⊥) }
+    ensures only { IfSome result (λ n. (other : ℕ) → IsDecimal text.now max other → other ≡ n) }
 {
     if text.len() > MOST_DIGITS {
         return None;
@@ -52,13 +53,15 @@ fn begins_plainly(text: &[u8]) -> bool
     first != b'0' || text.len() == 1
 }
 
-/// Appends the number's decimal digits.
+/// Appends the number's decimal digits, which `decimal` reads back where they are at most ten.
 ///
 /// # Errors
 /// Want of memory. The bytes are then as before.
+#[tactic(auto, using(crate::proofs::Decimals::reads_back))]
 pub fn push_decimal(into: &mut Vec<u8>, n: u64) -> Result<(), AllocError>
     ensures ok { OnOk result (into.new.items ≡ into.old.items ++ digits_of n) }
     ensures err { OnErr result (into.new.items ≡ into.old.items) }
+    ensures reads_back { n < 10 ^ 10 → (max : ℕ) → n ≤ max → IsDecimal (digits_of n) max n }
 {
     let mut buffer = Buffer::new();
     into.extend_from_slice(buffer.format(n).as_bytes())?;

@@ -13,7 +13,7 @@ use std::cmp::Ordering;
 use std::marker::Model;
 use std::str;
 
-/// The most bytes that a file's name has.
+/// The most bytes that a file's name has: a path of Linux has no more.
 const MOST_BYTES: usize = 4096;
 
 /// The name of a file, as it is handed to the system: 1 to 4096 bytes of UTF-8. Names are ordered
@@ -43,6 +43,8 @@ impl FileName {
         ensures valid { IfOk result (λ name. IsFileName name) }
         ensures refused { IsErrOf result (NameFault.At 0) ↔ ¬ (IsFileName text.now) }
         ensures place { IfErr result (λ fault. (n : ℕ) → fault ≡ NameFault.At n → n ≡ 0) }
+        // Want of memory comes only where the text is a file's name.
+        ensures memory { IsErrOf result NameFault.OutOfMemory → IsFileName text.now }
     {
         if text.is_empty() || text.len() > MOST_BYTES {
             return Err(NameFault::At(0));

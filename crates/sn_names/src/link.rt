@@ -1,13 +1,14 @@
 //! Links from an app's output port to an app's input port.
 ghost use Rattle.sn_names.specs.FirstFault.{IsFirstFault};
-ghost use Rattle.sn_names.specs.LinkOrder.{link_cmp};
-ghost use Rattle.sn_names.specs.LinkText.{AreNames, IsLinkText, IsSomeLinkText, canonical_text};
-ghost use Rattle.sn_names.specs.Parts.{left, link_parts};
+ghost use Rattle.sn_names.specs.LinkOrder.{link_cmp, text_cmp};
+ghost use Rattle.sn_names.specs.LinkText.{AreNames, IsBetween, IsLinkText, IsSomeLinkText, canonical_text};
+ghost use Rattle.sn_names.specs.NameText.{IsName};
+ghost use Rattle.sn_names.specs.Parts.{LeavesFrom, left, link_parts};
 ghost use Rattle.std.specs.Cmp.Lexicographic.{slice_cmp};
 ghost use Rattle.std.specs.Ordering.{nat_cmp};
-ghost use Rattle.std.specs.Prelude.{IfErr, IfOk, None, OnErr, OnOk, Some, length, vec_capacity, vec_len, ℕ, ◌+◌, ◌++◌, ◌-◌, ◌≡◌, ◌≤◌};
+ghost use Rattle.std.specs.Prelude.{IfErr, IfOk, IsErrOf, None, OnErr, OnOk, length, vec_capacity, vec_len, ℕ, ◌+◌, ◌++◌, ◌-◌, ◌≡◌, ◌≤◌};
 
-use crate::link_text::split_link;
+use crate::link_text::{Port, split_link};
 use crate::{Name, NameFault};
 use std::alloc::{AllocError, Global};
 
@@ -39,15 +40,27 @@ impl LinkSpec {
         ensures read { IfOk result (λ link. IsLinkText text.now link) }
         ensures only { IfOk result (λ link. (other : LinkSpec) → IsLinkText text.now other → other ≡ link) }
         ensures fault { IfErr result (λ fault. (n : ℕ) → fault ≡ NameFault.At n → IsFirstFault IsSomeLinkText text.now n) }
-        // The text goes on to its end as the parts of a link.
+        // Want of memory comes only where the text is one of a link.
+        ensures memory { IsErrOf result NameFault.OutOfMemory → IsSomeLinkText text.now }
+        // The text goes on to its end as the parts of a link, also where there was no memory.
         ensures whole { OnOk result (left link_parts text.now ≡ None) }
+        ensures starved { IsErrOf result NameFault.OutOfMemory → left link_parts text.now ≡ None }
         // It goes on so up to the fault, and the bytes from there on are left.
-        ensures rest { IfErr result (λ fault. (n : ℕ) → fault ≡ NameFault.At n → left link_parts text.now ≡ Some (length text.now - n)) }
+        ensures rest { IfErr result (λ fault. (n : ℕ) → fault ≡ NameFault.At n → LeavesFrom link_parts text.now n) }
     {
         let (from, to) = match split_link(text) {
             Ok(ports) => ports,
             Err(rest) => return Err(NameFault::At(text.len() - rest)),
         };
+        Ok(LinkSpec::between(alloc, from, to)?)
+    }
+
+    /// The link between two ports, whose names are known to be names.
+    fn between(alloc: Global, from: Port<'_>, to: Port<'_>) -> Result<LinkSpec, AllocError>
+        requires from { IsName from.app.now × IsName from.port.now }
+        requires to { IsName to.app.now × IsName to.port.now }
+        ensures { IfOk result (IsBetween from.entry.app.now from.entry.port.now to.entry.app.now to.entry.port.now) }
+    {
         Ok(LinkSpec {
             from: Name::copied(alloc, from.app)?,
             out: Name::copied(alloc, from.port)?,
@@ -66,7 +79,7 @@ impl LinkSpec {
         ensures names { AreNames self.now }
         ensures reads_back { IsLinkText (canonical_text self.now) self.now }
         // The order of links is the order of their texts by their bytes.
-        ensures ordered { (other : LinkSpec) → AreNames other → link_cmp self.now other ≡ slice_cmp nat_cmp (canonical_text self.now) (canonical_text other) }
+        ensures ordered { (other : LinkSpec) → AreNames other → link_cmp self.now other ≡ text_cmp self.now other }
     {
         let (from, out) = (self.from.as_str(), self.out.as_str());
         let (to, input) = (self.to.as_str(), self.input.as_str());

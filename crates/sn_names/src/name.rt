@@ -6,7 +6,7 @@ ghost use Rattle.std.specs.Cmp.Lexicographic.{pointwise, slice_cmp};
 ghost use Rattle.std.specs.Cmp.Rules.{comparing};
 ghost use Rattle.std.specs.Cmp.{partial_order_from_own_ties};
 ghost use Rattle.std.specs.Ordering.{as_partial_cmp, nat_cmp};
-ghost use Rattle.std.specs.Prelude.{IfErr, IfOk, nat_eq, refl, ℕ, ◌≡◌};
+ghost use Rattle.std.specs.Prelude.{IfErr, IfOk, IsErrOf, nat_eq, refl, ℕ, ◌≡◌};
 
 use crate::NameFault;
 use crate::parts::{name_fault, split_name};
@@ -42,6 +42,8 @@ impl Name {
         ensures named { IfOk result (λ name. name ≡ text.now) }
         ensures valid { IfOk result (λ name. IsName name) }
         ensures fault { IfErr result (λ fault. (n : ℕ) → fault ≡ NameFault.At n → IsFirstFault IsName text.now n) }
+        // Want of memory comes only where the text is a name.
+        ensures memory { IsErrOf result NameFault.OutOfMemory → IsName text.now }
     {
         if let Some(at) = name_fault(text) {
             return Err(NameFault::At(at));

@@ -6,7 +6,7 @@ ghost use Rattle.sn_names.specs.Parts.{Part, is_space, left, name_parts, starts}
 ghost use Rattle.std.specs.List.{list_all};
 ghost use Rattle.std.specs.Prelude.{false, IfNone, IfSome, List, Some, [], drop, length, replicate, take, true, ℕ, ◌++◌, ◌-◌, ◌<◌, ◌∷◌, ◌≡◌, ◌≤◌};
 
-/// The most bytes that a name has.
+/// The most bytes that a name has, so that a line of a scenario has room for the four of a link.
 const MOST_BYTES: usize = 64;
 
 /// A letter, a digit or `_`.

@@ -22,5 +22,11 @@ impl Model for Roster {
 
     ghost Value = { RosterRows };
 
-    ghost view = { λ r. record { apps = r.apps.items; links = r.links.items; captures = r.captures.items; files = r.files.items; lanes = r.lanes.items } };
+    ghost view = { λ r. record {
+      apps = r.apps.items;
+      links = r.links.items;
+      captures = r.captures.items;
+      files = r.files.items;
+      lanes = r.lanes.items;
+    } };
 }

@@ -3,3 +3,4 @@ pub mod Contents
 pub mod Counts
 pub mod Memory
 pub mod Told
+pub mod Views

@@ -5,6 +5,7 @@
 //! * `gate`: the trait [`Gate`], and [`NoGate`]
 //! * `fault`: what these answer where they refuse
 //! * `mem_files`, `mem_sink`: both in memory, for tests: they tell what they hold, and fail at chosen calls
+//! * `streams`: bytes from any reader and to any writer
 //! * `real_files`, `std_out`: the thin adapters to the system
 #![tactic(auto)]
 
@@ -16,6 +17,7 @@ mod mem_sink;
 mod real_files;
 mod sink;
 mod std_out;
+mod streams;
 
 pub use fault::{FileFault, SinkFault};
 pub use files::{CallKind, FileCall, Files};
@@ -25,6 +27,9 @@ pub use mem_sink::MemSink;
 pub use real_files::RealFiles;
 pub use sink::Sink;
 pub use std_out::StdOut;
+pub use streams::{read_within, write_some, write_whole};
 
+#[cfg(test)]
+mod full_disk;
 #[cfg(test)]
 mod tests;

@@ -4,7 +4,7 @@ ghost use Rattle.sn_outside.specs.Appended.{Appends};
 ghost use Rattle.sn_outside.specs.Contents.{contents_of};
 ghost use Rattle.sn_outside.specs.Counts.{HasCause};
 ghost use Rattle.sn_outside.specs.Memory.{FailsIf, FailsNext, IsMissing};
-ghost use Rattle.sn_outside.specs.Told.{ToldRead, ToldWrite};
+ghost use Rattle.sn_outside.specs.Told.{GainedFile, ToldRead, ToldWrite};
 ghost use Rattle.sn_outside.specs.declared.fault.FileFault.TheVariants.{TooLong};
 ghost use Rattle.std.specs.FinMap as map;
 ghost use Rattle.std.specs.Prelude.{ℕ, Bool, List, [], ◌∷◌, ◌++◌, true, Ok, Err, None, Some, Contains, IsTrue, IsOk, IsNone, OnOk, OnErr, length, map as each, option_map, vec_len, vec_capacity, ◌+◌, ◌≡◌, ◌<◌, ◌⊎◌, ◌↔◌};
@@ -26,21 +26,23 @@ pub struct MemFiles {
 }
 
 impl Model for MemFiles {
-    ghost use Rattle.sn_outside.specs.Memory.{Memory};
+    ghost use Rattle.sn_outside.specs.Memory.{MemFilesView};
     ghost use Rattle.sn_outside.specs.Contents.{contents_code, contents_of};
     ghost use Rattle.sn_outside.specs.contracts.files.FileCall as call;
     ghost use Rattle.std.specs.Coded.{codes};
     ghost use Rattle.std.specs.Prelude.{map as each};
 
-    ghost Value = { Memory };
+    ghost Value = { MemFilesView };
 
     ghost coded = { Prim.hlevel (codes, contents_code, call.the_row.coded) };
 
     ghost view = { λ m. record {
-      contents = contents_of (each (λ f. (f.0, f.1.items)) m.files.items);
-      calls = m.calls.items;
+      state = record {
+        contents = contents_of (each (λ f. (f.0, f.1.items)) m.files.items);
+        calls = m.calls.items;
+        faults = m.faults;
+      };
       failing = m.failing.items;
-      faults = m.faults;
     } };
 }
 
@@ -49,10 +51,12 @@ impl MemFiles {
     /// will fail.
     pub fn new(alloc: Global, files: Vec<(FileName, Vec<u8>)>, failing: Vec<u64>) -> MemFiles
         ensures { result ≡ record {
-          contents = contents_of (each (λ f. (f.0, f.1.items)) files.items);
-          calls = [];
+          state = record {
+            contents = contents_of (each (λ f. (f.0, f.1.items)) files.items);
+            calls = [];
+            faults = 0;
+          };
           failing = failing.items;
-          faults = 0;
         } }
     {
         MemFiles {
@@ -66,14 +70,14 @@ impl MemFiles {
 
     /// The content of a file, or None where there is none of this name.
     pub fn bytes(&self, name: &FileName) -> Option<&[u8]>
-        ensures { option_map (λ found. found.now) result ≡ map.get self.now.contents name.now }
+        ensures { option_map (λ found. found.now) result ≡ map.get self.now.state.contents name.now }
     {
         look_up(&self.files, name)
     }
 
     /// The calls made so far, the oldest first.
     pub fn calls(&self) -> &[FileCall]
-        ensures { result.now ≡ self.now.calls }
+        ensures { result.now ≡ self.now.state.calls }
     {
         &self.calls
     }
@@ -128,21 +132,18 @@ fn keep(files: &mut Vec<(FileName, Vec<u8>)>, name: FileName, bytes: Vec<u8>)
 }
 
 impl Files for MemFiles {
-    ghost faults = { λ m. m.faults };
-
     ghost tells = { true };
 
-    ghost contents = { λ m. m.contents };
-
-    ghost calls = { λ m. m.calls };
+    ghost state = { λ m. m.state };
 
     /// As for all files; it fails where the call's number is one of those that fail, and where
     /// there is no file of this name.
     fn read(&mut self, name: &FileName, limit: u64, into: &mut Vec<u8>) -> Result<(), FileFault>
-        ensures cause { HasCause self.old.faults self.new.faults result }
+        ensures cause { HasCause self.old.state self.new.state result }
         ensures appends { OnOk result (Appends into.old.items into.new.items limit) }
         ensures refused { OnErr result (into.new.items ≡ into.old.items) }
-        ensures told { true ≡ true → ToldRead self.old.contents self.new.contents self.old.calls self.new.calls name.now limit into.old.items into.new.items result }
+        ensures found { true ≡ true → OnOk result (GainedFile self.old.state name.now into.old.items into.new.items) }
+        ensures told { true ≡ true → ToldRead self.old.state self.new.state name.now limit result }
         ensures fails { FailsIf (FailsNext self.old ⊎ IsMissing self.old name.now) result }
         ensures failing { self.new.failing ≡ self.old.failing }
     {
@@ -186,11 +187,11 @@ impl Files for MemFiles {
     /// As for all files; it fails exactly where the call's number is one of those that fail, and
     /// the file is then as it was.
     fn write(&mut self, name: &FileName, bytes: &[u8]) -> Result<(), FileFault>
-        ensures cause { HasCause self.old.faults self.new.faults result }
+        ensures cause { HasCause self.old.state self.new.state result }
         ensures never_long { result ≡ Err TooLong → ⊥ }
-        ensures told { true ≡ true → ToldWrite self.old.contents self.new.contents self.old.calls self.new.calls name.now bytes.now result }
+        ensures told { true ≡ true → ToldWrite self.old.state self.new.state name.now bytes.now result }
         ensures fails { FailsIf (FailsNext self.old) result }
-        ensures kept { OnErr result (self.new.contents ≡ self.old.contents) }
+        ensures kept { OnErr result (self.new.state.contents ≡ self.old.state.contents) }
         ensures failing { self.new.failing ≡ self.old.failing }
     {
         let asked = name.copy(self.alloc)?;

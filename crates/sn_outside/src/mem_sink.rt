@@ -1,6 +1,6 @@
 //! A sink in memory, for tests: it tells what it took, takes a piece at a time, and fails at chosen
 //! calls.
-ghost use Rattle.sn_outside.specs.Counts.{Rose};
+ghost use Rattle.sn_outside.specs.Counts.{SinkHasCause};
 ghost use Rattle.sn_outside.specs.Memory.{SinkFailsNext, takes_next};
 ghost use Rattle.sn_outside.specs.Told.{ToldTaken};
 ghost use Rattle.std.specs.Prelude.{ℕ, Bool, List, [], ◌++◌, true, Contains, IfOk, IsErr, IsTrue, OnErr, length, min, take, ◌+◌, ◌-◌, ◌≡◌, ◌<◌, ◌≤◌, ◌⊎◌, ◌↔◌, ◌^◌};
@@ -21,18 +21,17 @@ pub struct MemSink {
 }
 
 impl Model for MemSink {
-    ghost use Rattle.sn_outside.specs.Memory.{Shelf};
+    ghost use Rattle.sn_outside.specs.Memory.{MemSinkView};
     ghost use Rattle.std.specs.Prelude.{vec_len, vec_capacity, ◌<◌, ◌≤◌};
 
-    ghost Value = { Shelf };
+    ghost Value = { MemSinkView };
 
     ghost view = { λ s. record {
-      taken = s.taken.items;
+      state = record { taken = s.taken.items; faults = s.faults };
       piece = s.piece;
       room = s.room;
       next = s.next;
       failing = s.failing.items;
-      faults = s.faults;
     } };
 
     ghost invariant = { λ s. (0 < s.piece) × (vec_len s.taken ≤ s.room) × (s.room ≤ vec_capacity s.taken) };
@@ -52,12 +51,11 @@ impl MemSink {
     ) -> Result<MemSink, AllocError>
         requires { 0 < piece }
         ensures { IfOk result (λ sink. sink ≡ record {
-          taken = [];
+          state = record { taken = []; faults = 0 };
           piece = piece;
           room = room;
           next = 1;
           failing = failing.items;
-          faults = 0;
         }) }
     {
         let taken = Vec::with_capacity(alloc, room)?;
@@ -73,32 +71,29 @@ impl MemSink {
 
     /// All bytes taken so far.
     pub fn taken(&self) -> &[u8]
-        ensures { result.now ≡ self.now.taken }
+        ensures { result.now ≡ self.now.state.taken }
     {
         &self.taken
     }
 }
 
 impl Sink for MemSink {
-    ghost faults = { λ s. s.faults };
-
     ghost tells = { true };
 
-    ghost taken = { λ s. s.taken };
+    ghost state = { λ s. s.state };
 
     /// As for all sinks; it fails exactly where the call's number is one of those that fail, or the
     /// room is full, and else takes as much as piece and room allow.
     fn write(&mut self, bytes: &[u8]) -> Result<usize, SinkFault>
         requires { 0 < length bytes.now }
-        ensures later { self.old.faults ≤ self.new.faults }
-        ensures cause { OnErr result (Rose self.old.faults self.new.faults) }
+        ensures cause { SinkHasCause self.old.state self.new.state result }
         ensures some { IfOk result (λ n. 0 < n) }
         ensures within { IfOk result (λ n. n ≤ length bytes.now) }
-        ensures told { true ≡ true → ToldTaken self.old.taken self.new.taken bytes.now result }
+        ensures told { true ≡ true → ToldTaken self.old.state self.new.state bytes.now result }
         ensures fails { OnErr result (SinkFailsNext self.old) }
         ensures count { IfOk result (λ n. n ≡ takes_next self.old (length bytes.now)) }
         ensures takes { SinkFailsNext self.old → IsErr result }
-        ensures stays { self.new ≡ record self.old { taken = self.new.taken; next = min (self.old.next + 1) (2 ^ 64 - 1); faults = self.new.faults } }
+        ensures stays { self.new ≡ record self.old { state = self.new.state; next = min (self.old.next + 1) (2 ^ 64 - 1) } }
     {
         let number = self.next;
         self.next = self.next.saturating_add(1);

@@ -76,7 +76,7 @@ impl Capture {
         ensures text { PcapText self.now (payloads_of self.now) }
     {
         let _ = &self.order;
-        24
+        HEADER_LEN as u64
     }
 
     /// The record at a place, which is `first()` or a record's `next`, or None exactly at the end.

@@ -12,7 +12,7 @@ mod writing;
 pub use capture::Capture;
 pub use fault::PcapFault;
 pub use laws::{no_fault, one_fault, one_reading, written_is_read};
-pub use record::{MAX_PAYLOAD, RecordAt};
+pub use record::RecordAt;
 pub use writing::{write_header, write_record};
 
 #[cfg(test)]

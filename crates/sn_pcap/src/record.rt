@@ -5,9 +5,7 @@ ghost use Rattle.sn_pcap.specs.Places.{captured_at, order_of, payloads_of, exten
 
 use crate::header::HEADER_LEN;
 use crate::order::{Order, number_at};
-
-/// The most bytes of a payload that is written, 10,240, and the most of one that isn't oversize.
-pub const MAX_PAYLOAD: u32 = 10_240;
+use sn_names::MAX_PAYLOAD;
 
 /// How many bytes a record's header takes: its time, its captured and its original length.
 pub(crate) const RECORD_HEADER_LEN: usize = 16;

@@ -1,3 +1,5 @@
+//! Captures written, opened and read again, each fault once, and callers proved from the contracts
+//! alone.
 ghost use Rattle.std.specs.Prelude.{◌≡◌, ◌≤◌, ◌↔◌, length, map, All, IsTrue, IfOk};
 ghost use Rattle.sn_pcap.specs.Faults.{HasFault};
 ghost use Rattle.sn_pcap.specs.Places.{payloads_of};
@@ -101,6 +103,22 @@ fn what_is_written_is_read_again(rt: HostRuntime) -> Result<(), Fail> {
     Ok(())
 }
 
+/// A payload of this length.
+fn payload_of(alloc: Global, length: usize) -> Result<Vec<u8>, AllocError> {
+    vec![in alloc; 4; length]
+}
+
+#[test]
+fn the_longest_payload_is_written_where_there_is_memory(rt: HostRuntime) -> Result<(), Fail> {
+    let payload = payload_of(rt.alloc(), 10_240)?;
+    let mut written = Vec::new(rt.alloc());
+    if payload.len() <= MAX_PAYLOAD as usize {
+        write_record(&mut written, &payload)?;
+    }
+    assert_eq!(rt; written.len(), 10_256);
+    Ok(())
+}
+
 #[test]
 fn every_prefix_has_its_outcome(rt: HostRuntime) -> Result<(), Fail> {
     let bytes = three_records(rt.alloc())?;
@@ -149,7 +167,7 @@ fn both_orders_and_both_magics_are_read(rt: HostRuntime) -> Result<(), Fail> {
 }
 
 #[test]
-fn lengths_are_rewritten(rt: HostRuntime) -> Result<(), Fail> {
+fn lengths_rewritten_are_both_what_was_captured(rt: HostRuntime) -> Result<(), Fail> {
     let mut bytes = vec![in rt.alloc();
         0xd4, 0xc3, 0xb2, 0xa1, 2, 0, 4, 0, 0, 0, 0, 0, 0, 0, 0, 0, 0, 0, 4, 0, 1, 0, 0, 0,
     ]?;
@@ -157,7 +175,7 @@ fn lengths_are_rewritten(rt: HostRuntime) -> Result<(), Fail> {
     bytes.extend_from_slice(&[7; 96])?;
     let (_, payload) = walked(rt.alloc(), &Capture::open(bytes)?)?;
     let mut written = Vec::new(rt.alloc());
-    if payload.len() <= 10_240 {
+    if payload.len() <= MAX_PAYLOAD as usize {
         write_record(&mut written, &payload)?;
     }
     let mut want = vec![in rt.alloc(); 0, 0, 0, 0, 0, 0, 0, 0, 96, 0, 0, 0, 96, 0, 0, 0]?;

@@ -28,7 +28,7 @@ pub fn write_header(into: &mut Vec<u8>) -> Result<(), AllocError>
 fn record_header(len: u32) -> [u8; RECORD_HEADER_LEN]
     ensures { result ≡ header_of len }
 {
-    let mut header = [0; 16];
+    let mut header = [0; RECORD_HEADER_LEN];
     LittleEndian::write_u32(&mut header[8..], len);
     LittleEndian::write_u32(&mut header[12..], len);
     header

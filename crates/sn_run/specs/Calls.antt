@@ -1,72 +1,74 @@
--- The calls that a command makes on its files, by the answer that it ends with.
-use Rattle.std.specs.Prelude.{ℕ, ◌≡◌, ◌⊎◌, List, [], ◌∷◌, ◌++◌, Result, Ok, Err}
+-- The calls that a command makes on its files, by the way in which it ends.
+use Rattle.std.specs.Prelude.{ℕ, true, ◌≡◌, ◌⊎◌, List, [], ◌∷◌, ◌++◌, Ok, Err, map}
+use Rattle.sn_outside.specs.Told.{with_call}
 use Rattle.sn_outside.specs.declared.fault.FileFault.{FileFault}
-use Rattle.sn_outside.specs.declared.fault.FileFault.TheVariants.{Failed, TooLong as Long}
+use Rattle.sn_outside.specs.declared.fault.FileFault.TheVariants.{Failed, TooLong, OutOfMemory}
+use Rattle.sn_outside.specs.declared.files.CallKind.TheVariants.{Read, Write}
 use Rattle.sn_outside.specs.declared.files.FileCall.{FileCall}
-use Rattle.sn_run.specs.Commands.{IsCommandOf}
-use Rattle.sn_run.specs.Seen.{Seen, Made, a_read, a_write}
+use Rattle.sn_pcap.specs.declared.fault.PcapFault.{PcapFault}
+use Rattle.sn_pcap.specs.Faults.{HasFault}
+use Rattle.sn_pcap.specs.Grammar.{PcapText}
+use Rattle.sn_run.specs.Commands.{IsCommand, IsCommandOf}
+use Rattle.sn_run.specs.Reported.{RunReport, WrittenFile, IsRun, outcome}
+use Rattle.sn_run.specs.Scripts.{Script, prints, refuses, reads, opens, runs, command_script}
+use Rattle.sn_run.specs.Seen.{Seen, a_read, write_call}
+use Rattle.sn_run.specs.Ways.{Way, no_words, unread, refused, finished, done, unwritten, starved, no_capture}
 use Rattle.sn_run.specs.declared.command.Command.{Command}
-use Rattle.sn_run.specs.declared.command.Command.TheVariants.{Run}
-use Rattle.sn_run.specs.declared.status.Status.{Status}
-use Rattle.sn_run.specs.declared.status.Status.TheVariants.{Drained, RoundsUsed, Done, BadWords, NoWorker, BadScenario, NotYet, BadPcap, ReadFault, TooLong, WriteFault, PrintFault, OutOfMemory}
 
--- the file is the command's own, and nothing is called before it is read
-pub record IsOwn (words : List (List ℕ)) (name : List ℕ) (prior : List FileCall) : Type 0 where
-  pub command : Command
-  pub asked : IsCommandOf words name command
-  pub first : prior ≡ []
+-- the way is this one, or memory lacked
+abbrev pub IsOrStarved : Way → Way → Type 0
+IsOrStarved way wanted = (way ≡ wanted) ⊎ (way ≡ starved)
 
--- the file is another one of a run, whose own was read before it
-pub record IsAfterOwn (words : List (List ℕ)) (prior : List FileCall) : Type 0 where
-  pub file : List ℕ
-  pub asked : IsCommandOf words file Run
-  pub second : prior ≡ a_read file (Ok tt) ∷ []
+-- the way in which a refused call ends a command
+abbrev pub unread_way : List ℕ → FileFault → Way
+unread_way name Failed = unread name Failed
+unread_way name TooLong = unread name TooLong
+unread_way name OutOfMemory = starved
 
--- the read of a file is the last call
-pub record EndsWithRead (words : List (List ℕ)) (name : List ℕ) (answer : Result Unit FileFault) (calls : List FileCall) : Type 0 where
-  pub prior : List FileCall
-  pub before : IsOwn words name prior ⊎ IsAfterOwn words prior
-  pub calls_are : calls ≡ prior ++ a_read name answer ∷ []
+abbrev pub EndsUnwritten : FileFault → List ℕ → Way → Type 0
+EndsUnwritten Failed name way = way ≡ unwritten name
+EndsUnwritten TooLong name way = ⊥
+EndsUnwritten OutOfMemory name way = way ≡ starved
 
--- the read of the command's own file is the one call
-pub record IsOneRead (words : List (List ℕ)) (calls : List FileCall) : Type 0 where
-  pub file : List ℕ
-  pub command : Command
-  pub asked : IsCommandOf words file command
-  pub calls_are : calls ≡ a_read file (Ok tt) ∷ []
+-- the files before this one are written, and its write is refused with this fault, which ends it
+pub record AreWritesUpTo (files : List WrittenFile) (calls : List FileCall) (way : Way) : Type 0 where
+  pub front : List WrittenFile
+  pub file : WrittenFile
+  pub behind : List WrittenFile
+  pub files_are : files ≡ front ++ file ∷ behind
+  pub fault : FileFault
+  pub calls_are : calls ≡ with_call (map write_call front) Write file.name (Err fault)
+  pub ends : EndsUnwritten fault file.name way
 
--- both files of a run are read, the second of this name
-pub record AreBothReads (words : List (List ℕ)) (name : List ℕ) (calls : List FileCall) : Type 0 where
-  pub file : List ℕ
-  pub asked : IsCommandOf words file Run
-  pub calls_are : calls ≡ a_read file (Ok tt) ∷ a_read name (Ok tt) ∷ []
+-- the files are written, all or up to the first that is refused
+abbrev pub AreWrites : RunReport → List FileCall → Way → Type 0
+AreWrites told calls way = ((calls ≡ map write_call told.files) × (way ≡ finished (outcome told.left))) ⊎ AreWritesUpTo told.files calls way
 
--- the write of a file is the last call, behind both reads
-pub record EndsWithWrite (words : List (List ℕ)) (name : List ℕ) (answer : Result Unit FileFault) (calls : List FileCall) : Type 0 where
-  pub file : List ℕ
-  pub input : List ℕ
-  pub asked : IsCommandOf words file Run
-  pub calls_are : calls ≡ a_read file (Ok tt) ∷ a_read input (Ok tt) ∷ a_write name answer ∷ []
+-- The calls are the script's, in its order, up to the first that is refused or for which memory lacks; those refused for want of
+-- memory aren't noted.
+unfoldable pub AreCalls : Script → List FileCall → Way → Type 0
+AreCalls (prints text) calls way = (calls ≡ []) × IsOrStarved way done
+AreCalls (refuses why) calls way = (calls ≡ []) × IsOrStarved way (refused why)
+AreCalls (reads name limit next) calls way =
+    ((bytes : List ℕ) × (more : List FileCall) × (calls ≡ a_read name (Ok tt) ∷ more) × AreCalls (next bytes) more way)
+    ⊎ (((fault : FileFault) × (calls ≡ with_call [] Read name (Err fault)) × IsOrStarved way (unread_way name fault))
+    ⊎ ((calls ≡ []) × (way ≡ starved)))
+AreCalls (opens name bytes next) calls way =
+    ((records : List (List ℕ)) × PcapText bytes records × AreCalls (next records) calls way)
+    ⊎ (((fault : PcapFault) × HasFault bytes fault × (calls ≡ []) × IsOrStarved way (refused (no_capture name fault)))
+    ⊎ ((calls ≡ []) × (way ≡ starved)))
+AreCalls (runs form captures) calls way =
+    ((told : RunReport) × IsRun form captures told × AreWrites told calls way)
+    ⊎ ((calls ≡ []) × (way ≡ starved))
 
--- Each read and write is made once, in this order, up to the first that is refused, but for those
--- refused for want of memory, which aren't noted; after want of memory there is a front of them.
-abbrev pub AreCalls : List (List ℕ) → Status → List FileCall → Type 0
-AreCalls words Drained calls = (name : List ℕ) × EndsWithWrite words name (Ok tt) calls
-AreCalls words (RoundsUsed left) calls = (name : List ℕ) × EndsWithWrite words name (Ok tt) calls
-AreCalls words Done calls = IsOneRead words calls
-AreCalls words BadWords calls = calls ≡ []
-AreCalls words (NoWorker worker) calls = IsOneRead words calls
-AreCalls words (BadScenario fault) calls = IsOneRead words calls
-AreCalls words (NotYet name) calls = IsOneRead words calls
-AreCalls words (BadPcap name fault) calls = AreBothReads words name calls
-AreCalls words (ReadFault name) calls = EndsWithRead words name (Err Failed) calls
-AreCalls words (TooLong name) calls = EndsWithRead words name (Err Long) calls
-AreCalls words (WriteFault name) calls = EndsWithWrite words name (Err Failed) calls
-AreCalls words PrintFault calls = ⊥
-AreCalls words OutOfMemory calls = (calls ≡ []) ⊎ ((name : List ℕ) × (answer : Result Unit FileFault) × EndsWithRead words name answer calls)
+-- the calls are those that the words ask for: none, where they are no command
+abbrev pub AreCallsOf : List (List ℕ) → List FileCall → Way → Type 0
+AreCallsOf words calls way =
+    ((IsCommand words → ⊥) × (calls ≡ []) × (way ≡ no_words))
+    ⊎ ((file : List ℕ) × (command : Command) × IsCommandOf words file command × AreCalls (command_script file command) calls way)
 
--- the calls made are those of this answer
-pub record CallsMade (w : Seen) (words : List (List ℕ)) (status : Status) : Type 0 where
+-- the calls made, which the files tell where they tell what they hold, are those
+pub record CallsMade (w : Seen) (words : List (List ℕ)) (way : Way) : Type 0 where
   pub calls : List FileCall
-  pub made : Made w calls
-  pub are : AreCalls words status calls
+  pub told : w.tells ≡ true → w.new.calls ≡ w.old.calls ++ calls
+  pub are : AreCallsOf words calls way

@@ -1,8 +1,12 @@
 -- The words of a command.
-use Rattle.std.specs.Prelude.{ℕ, ◌≤◌, ◌≡◌, List, [], ◌∷◌, length, codes}
+use Rattle.std.specs.Prelude.{ℕ, ◌≤◌, ◌≡◌, List, [], ◌∷◌, String, length, codes, map, string_bytes}
 use Rattle.std.specs.Fmt.{decimal}
 use Rattle.sn_run.specs.declared.command.Command.{Command}
 use Rattle.sn_run.specs.declared.command.Command.TheVariants.{Run, Check, Actions}
+
+-- the words of a command line, as bytes
+abbrev pub texts : {A : Type 0} → List (String A) → List (List ℕ)
+texts words = map string_bytes words
 
 -- the words that ask for a command over a file
 abbrev pub words_for : List ℕ → Command → List (List ℕ)

@@ -1,14 +1,14 @@
--- The scenarios of the one form that runs so far: one worker copies a capture.
-use Rattle.std.specs.Prelude.{ℕ, ◌*◌, ◌≤◌, ◌≡◌, List, [], ◌∷◌, ◌++◌, Ok, codes}
+-- The scenarios that run so far: one worker copies a capture.
+use Rattle.std.specs.Prelude.{ℕ, ◌*◌, ◌≡◌, ◌&&◌, Bool, true, false, List, [], ◌∷◌, ◌++◌, Option, Some, None, Ok, codes, nat_le, bytes_eq}
 use Rattle.std.specs.Fmt.{decimal}
 use Rattle.sn_scenario.specs.PlainText.{plain_text}
 use Rattle.sn_scenario.specs.ScenarioText.{scenario_of}
 use Rattle.sn_scenario.specs.Scenarios.{ScenarioForm}
+use Rattle.sn_scenario.specs.declared.settings.Settings.{Settings}
 
 -- rounds of breaths, the capture that is read and the file that is written
 pub record Copying : Type 0 where
-  pub breaths : ℕ
-  pub rounds : ℕ
+  pub settings : Settings
   pub input : List ℕ
   pub output : List ℕ
 
@@ -35,28 +35,30 @@ line words value = words ++ (value ++ 10 ∷ [])
 -- the eight lines, each ended by a line feed
 abbrev pub copying_text : Copying → List ℕ
 copying_text c =
-    line before_breaths (decimal c.breaths)
-    ++ (line before_rounds (decimal c.rounds)
+    line before_breaths (decimal c.settings.breaths)
+    ++ (line before_rounds (decimal c.settings.rounds)
     ++ (line before_input c.input
     ++ (line before_output c.output ++ after_output)))
 
--- the scenario has these breaths and rounds, two breaths in all or more, and just these two files
-pub record HasValues (form : ScenarioForm) (c : Copying) : Type 0 where
-  pub breaths : c.breaths ≡ form.settings.breaths
-  pub rounds : c.rounds ≡ form.settings.rounds
-  pub two : 2 ≤ c.rounds * c.breaths
-  pub input : form.captures ≡ c.input ∷ []
-  pub output : form.outputs ≡ c.output ∷ []
+-- the values, where just one capture is read and just one file written
+abbrev pub copying_by : Settings → List (List ℕ) → List (List ℕ) → Option Copying
+copying_by settings (input ∷ []) (output ∷ []) = Some (record { settings = settings; input = input; output = output })
+copying_by settings captures outputs = None
 
--- The text is that of a scenario with these values, and its significant lines are, up to spacing, the
--- eight lines with them.
-pub record IsScenario (text : List ℕ) (c : Copying) : Type 0 where
-  pub form : ScenarioForm
+abbrev pub copying_of : ScenarioForm → Option Copying
+copying_of form = copying_by form.settings form.captures form.outputs
+
+-- whether these are two breaths or more, and a text's plain spelling is the eight lines with these values
+abbrev pub is_spelled : List ℕ → Option Copying → Bool
+is_spelled plain None = false
+is_spelled plain (Some c) = nat_le 2 (c.settings.rounds * c.settings.breaths) && bytes_eq plain (copying_text c)
+
+-- whether the scenario of a text runs so far
+abbrev pub runs_now : List ℕ → ScenarioForm → Bool
+runs_now text form = is_spelled (plain_text text) (copying_of form)
+
+-- the scenario runs so far: a text spells it that does
+pub record RunsSoFar (form : ScenarioForm) : Type 0 where
+  pub text : List ℕ
   pub read : scenario_of text ≡ Ok form
-  pub values : HasValues form c
-  pub lines : plain_text text ≡ copying_text c
-
--- a run has so many breaths in all
-pub record IsRunnable (c : Copying) : Type 0 where
-  pub two : 2 ≤ c.rounds * c.breaths
-  pub most : c.rounds * c.breaths ≤ 100000
+  pub now : runs_now text form ≡ true

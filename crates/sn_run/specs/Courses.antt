@@ -1,35 +1,80 @@
--- The whole course of a call: what its words, and what the files held and answered, make of it.
-use Rattle.std.specs.Prelude.{ℕ, ◌≡◌, ◌⊎◌, List, [], Option, None}
-use Rattle.sn_run.specs.Alone.{Alone}
-use Rattle.sn_run.specs.Causes.{Cause}
+-- How a call follows a script.
+use Rattle.std.specs.Prelude.{ℕ, Bool, ◌≡◌, ◌⊎◌, List, Option, Some, None}
+use Rattle.sn_outside.specs.Views.{FilesView}
+use Rattle.sn_outside.specs.declared.fault.FileFault.{FileFault}
+use Rattle.sn_outside.specs.declared.fault.FileFault.TheVariants.{Failed, TooLong, OutOfMemory}
+use Rattle.sn_pcap.specs.declared.fault.PcapFault.{PcapFault}
+use Rattle.sn_pcap.specs.Faults.{HasFault}
+use Rattle.sn_pcap.specs.Grammar.{PcapText}
 use Rattle.sn_run.specs.Commands.{IsCommand, IsCommandOf}
-use Rattle.sn_run.specs.Reported.{RunReport}
-use Rattle.sn_run.specs.Seen.{Seen, Made, Kept}
+use Rattle.sn_run.specs.Reported.{RunReport, WrittenFile, IsRun, outcome}
+use Rattle.sn_run.specs.Scripts.{Script, prints, refuses, reads, opens, runs, command_script}
+use Rattle.sn_run.specs.Seen.{Seen, ReadGave, ReadRefused, Written, WrittenUpTo}
+use Rattle.sn_run.specs.Texts.{Said, SaysOrStarves, said_of, starving, unread_said}
+use Rattle.sn_run.specs.Ways.{no_words, refused, finished, done, unwritten, no_capture}
 use Rattle.sn_run.specs.declared.command.Command.{Command}
-use Rattle.sn_run.specs.declared.command.Command.TheVariants.{Run, Check, Actions}
-use Rattle.sn_run.specs.declared.status.Status.{Status}
-use Rattle.sn_run.specs.declared.status.Status.TheVariants.{BadWords}
 
--- what stands behind an answer of a command over a file
-abbrev pub CommandCause : Seen → List ℕ → Command → Option RunReport → Status → Type 0
-CommandCause w file Run report status = Cause w file report status
-CommandCause w file Check report status = Alone w file Check report status
-CommandCause w file (Actions worker) report status = Alone w file (Actions worker) report status
+-- nothing more is called, there is no report, and this is said or that memory lacked
+pub record Stops (old new : FilesView) (report : Option RunReport) (said wanted : Said) : Type 0 where
+  pub same : new ≡ old
+  pub none : report ≡ None
+  pub says : SaysOrStarves said wanted
+
+-- a file was not read, and that ends it
+pub record Unread (tells : Bool) (old new : FilesView) (name : List ℕ) (limit : ℕ) (report : Option RunReport) (said : Said) : Type 0 where
+  pub fault : FileFault
+  pub refused : ReadRefused tells old new name limit fault
+  pub none : report ≡ None
+  pub says : SaysOrStarves said (unread_said name fault)
+
+-- all files of a report were written
+pub record Finished (tells : Bool) (old new : FilesView) (told : RunReport) (report : Option RunReport) (said : Said) : Type 0 where
+  pub written : Written tells old new told.files
+  pub is : report ≡ Some told
+  pub says : said ≡ said_of (finished (outcome told.left))
+
+-- what is said where the write of a file was refused
+abbrev pub SaysUnwritten : FileFault → List ℕ → RunReport → Option RunReport → Said → Type 0
+SaysUnwritten Failed name told report said = (report ≡ Some told) × (said ≡ said_of (unwritten name))
+SaysUnwritten TooLong name told report said = ⊥
+SaysUnwritten OutOfMemory name told report said = (report ≡ None) × (said ≡ starving)
+
+-- a file of a report was not written, and no later one was tried
+pub record Unwritten (tells : Bool) (old new : FilesView) (told : RunReport) (report : Option RunReport) (said : Said) : Type 0 where
+  pub file : WrittenFile
+  pub fault : FileFault
+  pub up_to : WrittenUpTo tells old new told.files file fault
+  pub says : SaysUnwritten fault file.name told report said
+
+-- The steps of the script are made, in its order, up to the first that is refused or for which memory lacks.
+unfoldable pub Follows : Bool → Script → FilesView → FilesView → Option RunReport → Said → Type 0
+Follows tells (prints text) old new report said = Stops old new report said (record { way = done; text = text })
+Follows tells (refuses why) old new report said = Stops old new report said (said_of (refused why))
+Follows tells (reads name limit next) old new report said =
+    ((bytes : List ℕ) × (between : FilesView) × ReadGave tells old between name limit bytes × Follows tells (next bytes) between new report said)
+    ⊎ (Unread tells old new name limit report said ⊎ Stops old new report said starving)
+Follows tells (opens name bytes next) old new report said =
+    ((records : List (List ℕ)) × PcapText bytes records × Follows tells (next records) old new report said)
+    ⊎ (((fault : PcapFault) × HasFault bytes fault × Stops old new report said (said_of (refused (no_capture name fault))))
+    ⊎ Stops old new report said starving)
+Follows tells (runs form captures) old new report said =
+    ((told : RunReport) × IsRun form captures told × (Finished tells old new told report said ⊎ Unwritten tells old new told report said))
+    ⊎ Stops old new report said starving
 
 -- the words are no command, and nothing was called
-pub record NoCommand (w : Seen) (words : List (List ℕ)) (report : Option RunReport) (status : Status) : Type 0 where
+pub record NoCommand (w : Seen) (words : List (List ℕ)) (report : Option RunReport) (said : Said) : Type 0 where
   pub none : IsCommand words → ⊥
-  pub is : status ≡ BadWords
+  pub same : w.new ≡ w.old
   pub no_report : report ≡ None
-  pub kept : Kept w
-  pub made : Made w []
+  pub says : said ≡ said_of no_words
 
--- the words are a command, and this stands behind its answer
-pub record Commanded (w : Seen) (words : List (List ℕ)) (report : Option RunReport) (status : Status) : Type 0 where
+-- the words are a command, and its script was followed
+pub record Commanded (w : Seen) (words : List (List ℕ)) (report : Option RunReport) (said : Said) : Type 0 where
   pub file : List ℕ
   pub command : Command
   pub asked : IsCommandOf words file command
-  pub cause : CommandCause w file command report status
+  pub follows : Follows w.tells (command_script file command) w.old w.new report said
 
-abbrev pub Course : Seen → List (List ℕ) → Option RunReport → Status → Type 0
-Course w words report status = NoCommand w words report status ⊎ Commanded w words report status
+-- the course of a call: what its words, and what the files gave and answered, make of it
+abbrev pub Course : Seen → List (List ℕ) → Option RunReport → Said → Type 0
+Course w words report said = NoCommand w words report said ⊎ Commanded w words report said

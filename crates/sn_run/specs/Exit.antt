@@ -1,5 +1,9 @@
 -- The program's exit status.
-use Rattle.std.specs.Prelude.{ℕ}
+use Rattle.std.specs.Prelude.{ℕ, List, IsSome, ◌≡◌, ◌↔◌}
+use Rattle.sn_run.specs.Answers.{Answered}
+use Rattle.sn_run.specs.Printed.{Sunk}
+use Rattle.sn_run.specs.Seen.{Seen}
+use Rattle.sn_run.specs.declared.status.Ended.{Ended}
 use Rattle.sn_run.specs.declared.status.Status.{Status}
 use Rattle.sn_run.specs.declared.status.Status.TheVariants.{Drained, RoundsUsed, Done, BadWords, NoWorker, BadScenario, NotYet, BadPcap, ReadFault, TooLong, WriteFault, PrintFault, OutOfMemory}
 
@@ -17,3 +21,10 @@ exit_number (TooLong name) = 2
 exit_number (WriteFault name) = 2
 exit_number PrintFault = 2
 exit_number OutOfMemory = 5
+
+-- the number is the exit status of an answer to these words
+pub record ExitsWith (w : Seen) (s : Sunk) (words : List (List ℕ)) (number : ℕ) : Type 0 where
+  pub ended : Ended
+  pub answered : Answered w s words ended
+  pub replaced : IsSome ended.replaced ↔ (ended.status ≡ PrintFault)
+  pub number_is : number ≡ exit_number ended.status

@@ -1,7 +1,12 @@
 -- What a run leaves: the files that it writes, and how much was left undone.
-use Rattle.std.specs.Prelude.{ℕ, ◌-◌, ◌*◌, ◌≡◌, List, [], ◌∷◌, length, take, filter, nat_le, Bool}
+use Rattle.std.specs.Prelude.{ℕ, ◌==◌, ◌-◌, ◌*◌, ◌≡◌, if◌then◌else◌, List, [], ◌∷◌, length, take, filter, nat_le, Bool}
+use Rattle.std.specs.FinMap.{insert}
+use Rattle.sn_outside.specs.Contents.{Contents}
 use Rattle.sn_pcap.specs.Written.{written}
-use Rattle.sn_run.specs.Copying.{Copying}
+use Rattle.sn_scenario.specs.Scenarios.{ScenarioForm}
+use Rattle.sn_scenario.specs.declared.settings.Settings.{Settings}
+use Rattle.sn_run.specs.declared.outcome.Outcome.{Outcome}
+use Rattle.sn_run.specs.declared.outcome.Outcome.TheVariants.{Drained, RoundsUsed}
 
 -- a file that a run writes
 pub record WrittenFile : Type 0 where
@@ -13,11 +18,20 @@ pub record RunReport : Type 0 where
   pub files : List WrittenFile
   pub left : ℕ
 
--- How many records a run reads at most: 102 in each breath but the first, in which the network isn't whole yet.
-abbrev pub most_read : Copying → ℕ
-most_read c = 102 * (c.rounds * c.breaths - 1)
+-- how a run ends of which so much is left
+abbrev pub outcome : ℕ → Outcome
+outcome left = if left == 0 then Drained else RoundsUsed left
 
--- whether a record is written: it isn't oversize
+-- the contents with these files written, one after another
+abbrev pub with_files : Contents → List WrittenFile → Contents
+with_files before [] = before
+with_files before (file ∷ files) = with_files (insert before file.name file.bytes) files
+
+-- How many records a run reads at most: 102 in each breath but the first, in which the network isn't whole yet.
+abbrev pub most_read : Settings → ℕ
+most_read settings = 102 * (settings.rounds * settings.breaths - 1)
+
+-- whether a record is written: it has at most 10,240 bytes
 abbrev pub fits : List ℕ → Bool
 fits payload = nat_le (length payload) 10240
 
@@ -25,14 +39,19 @@ fits payload = nat_le (length payload) 10240
 abbrev pub copied : ℕ → List (List ℕ) → List (List ℕ)
 copied most records = filter fits (take most records)
 
--- what is reported of a run over a capture of these records
-abbrev pub report_of : Copying → List (List ℕ) → RunReport
-report_of c records =
+-- what is reported of a run that copies a capture of these records into a file
+abbrev pub report_of : Settings → List ℕ → List (List ℕ) → RunReport
+report_of settings output records =
     record {
-      files = record { name = c.output; bytes = written (copied (most_read c) records) } ∷ [];
-      left = length records - most_read c;
+      files = record { name = output; bytes = written (copied (most_read settings) records) } ∷ [];
+      left = length records - most_read settings;
     }
 
--- the report is that of a run of the scenario over a capture of these records
-pub record IsRun (c : Copying) (records : List (List ℕ)) (report : RunReport) : Type 0 where
-  pub told : report ≡ report_of c records
+-- The report is that of a run of this scenario over captures of these records: so far, one that copies its one capture into its
+-- one output.
+pub record IsRun (form : ScenarioForm) (captures : List (List (List ℕ))) (report : RunReport) : Type 0 where
+  pub records : List (List ℕ)
+  pub output : List ℕ
+  pub from : captures ≡ records ∷ []
+  pub to : form.outputs ≡ output ∷ []
+  pub told : report ≡ report_of form.settings output records

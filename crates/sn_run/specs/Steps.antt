@@ -1,86 +1,72 @@
--- What the steps of a run answer, one by one.
-use Rattle.std.specs.Prelude.{ℕ, ◌==◌, ◌≡◌, if◌then◌else◌, List, [], Ok, Err, Option, Some, None}
+-- What the steps of a command do, each as a part of the script that it follows.
+use Rattle.std.specs.Prelude.{ℕ, Bool, ◌≡◌, ◌⊎◌, List, [], Ok, Err, Option, None, ◌<◌, get_or, length, map, take}
+use Rattle.sn_outside.specs.Views.{FilesView}
 use Rattle.sn_outside.specs.declared.fault.FileFault.{FileFault}
-use Rattle.sn_outside.specs.declared.fault.FileFault.TheVariants.{Failed, TooLong as Long, OutOfMemory as NoMemory}
+use Rattle.sn_outside.specs.declared.fault.FileFault.TheVariants.{TooLong}
 use Rattle.sn_pcap.specs.Grammar.{PcapText}
 use Rattle.sn_pcap.specs.Places.{payloads_of}
 use Rattle.sn_scenario.specs.ScenarioText.{scenario_of}
 use Rattle.sn_scenario.specs.Scenarios.{ScenarioForm}
-use Rattle.sn_run.specs.Causes.{RefusesText, most_scenario, most_capture, FileEnds, RunEnds}
-use Rattle.sn_run.specs.Copying.{Copying, IsScenario}
-use Rattle.sn_run.specs.Reported.{RunReport}
-use Rattle.sn_run.specs.Seen.{Seen, Kept, Made, ReadGave}
-use Rattle.sn_run.specs.Texts.{text_of}
+use Rattle.sn_scenario.specs.declared.fault.ScenarioFault.{ScenarioFault}
+use Rattle.sn_run.specs.Courses.{Follows, Stops, Finished, Unwritten}
+use Rattle.sn_run.specs.Reported.{RunReport, WrittenFile}
+use Rattle.sn_run.specs.Scripts.{Script, reads, opens, runs, captures_script, command_script, most_captures, most_scenario}
+use Rattle.sn_run.specs.Seen.{ReadGave, Written, WriteRefused}
+use Rattle.sn_run.specs.Texts.{Said, SaysOrStarves, said_of, saying, starving}
+use Rattle.sn_run.specs.Ways.{refused, no_scenario, unwritten}
+use Rattle.sn_run.specs.declared.answer.Refusal.{Refusal}
 use Rattle.sn_run.specs.declared.command.Command.{Command}
-use Rattle.sn_run.specs.declared.status.Status.{Status}
-use Rattle.sn_run.specs.declared.status.Status.TheVariants.{Drained, RoundsUsed, BadScenario, ReadFault, TooLong, WriteFault, OutOfMemory}
 
--- the answer is this one, or want of memory
-abbrev pub IsOrHungry : Status → Status → Type 0
-IsOrHungry wanted OutOfMemory = Unit {0}
-IsOrHungry wanted status = status ≡ wanted
-
--- the answer to a refused read
-abbrev pub IsUnread : FileFault → List ℕ → Status → Type 0
-IsUnread Failed name status = IsOrHungry (ReadFault name) status
-IsUnread Long name status = IsOrHungry (TooLong name) status
-IsUnread NoMemory name status = status ≡ OutOfMemory
-
--- a file ended the command in this step, with no file changed
-pub record StepEnds (w : Seen) (name : List ℕ) (limit : ℕ) (Refuses : List ℕ → Status → Type 0) (status : Status) : Type 0 where
-  pub kept : Kept w
-  pub ends : FileEnds w [] name limit Refuses status
-
--- the text isn't read as a scenario
-abbrev pub IsBadText : List ℕ → Status → Type 0
-IsBadText text (BadScenario fault) = scenario_of text ≡ Err fault
-IsBadText text OutOfMemory = Unit {0}
-IsBadText text status = ⊥
+-- a text spells no scenario, and this is said, or memory lacked
+abbrev pub RefusesText : List ℕ → Said → Type 0
+RefusesText text said =
+    ((fault : ScenarioFault) × (scenario_of text ≡ Err fault) × SaysOrStarves said (said_of (refused (no_scenario fault))))
+    ⊎ (said ≡ starving)
 
 -- one read gave this text of this scenario
-pub record GaveText (w : Seen) (file text : List ℕ) (form : ScenarioForm) : Type 0 where
-  pub gave : ReadGave w file most_scenario text
+pub record GaveText (tells : Bool) (old new : FilesView) (file text : List ℕ) (form : ScenarioForm) : Type 0 where
+  pub gave : ReadGave tells old new file most_scenario text
   pub is : scenario_of text ≡ Ok form
 
--- a file ended a command in this step, whichever it was, with no file changed
-pub record TextEnds (w : Seen) (file : List ℕ) (status : Status) : Type 0 where
-  pub kept : Kept w
-  pub ends : (command : Command) → FileEnds w [] file most_scenario (RefusesText command file) status
-
--- one read gave the text of this scenario of the form
-pub record GaveScenario (w : Seen) (file : List ℕ) (c : Copying) : Type 0 where
-  pub text : List ℕ
-  pub gave : ReadGave w file most_scenario text
-  pub is : IsScenario text c
+-- the file of a command ended it, whichever command it was
+abbrev pub TextEnds : Bool → FilesView → FilesView → List ℕ → Said → Type 0
+TextEnds tells old new file said = (command : Command) → Follows tells (command_script file command) old new None said
 
 -- one read gave this capture
-pub record GaveCapture (w : Seen) (name : List ℕ) (capture : List ℕ) : Type 0 where
-  pub gave : ReadGave w name most_capture capture
-  pub is : PcapText capture (payloads_of capture)
+pub record GaveCapture (tells : Bool) (old new : FilesView) (name : List ℕ) (limit : ℕ) (bytes : List ℕ) : Type 0 where
+  pub gave : ReadGave tells old new name limit bytes
+  pub is : PcapText bytes (payloads_of bytes)
 
--- the write ended the run, with this report where it was called, and with no file changed where it wasn't
-abbrev pub WriteEnds : Seen → List ℕ → RunReport → Option RunReport → Status → Type 0
-WriteEnds w name told report OutOfMemory = (report ≡ None) × Kept w × Made w []
-WriteEnds w name told report status = (report ≡ Some told) × RunEnds w [] name told status
+-- a capture ended a command, whatever would have come next
+abbrev pub CaptureEnds : Bool → FilesView → FilesView → List ℕ → ℕ → Said → Type 0
+CaptureEnds tells old new name limit said =
+    (next : List ℕ → List (List ℕ) → Script) → Follows tells (reads name limit (λ bytes. opens name bytes (next bytes))) old new None said
 
--- how a run ends of which so much is left
-abbrev pub outcome : ℕ → Status
-outcome left = if left == 0 then Drained else RoundsUsed left
+-- what follows once these captures were read follows on their reads
+abbrev pub LeadOn : Bool → FilesView → FilesView → List (List ℕ) → List (List (List ℕ)) → Type 0
+LeadOn tells old new names captures =
+    (form : ScenarioForm) (last : FilesView) (report : Option RunReport) (said : Said)
+    → Follows tells (runs form captures) new last report said → Follows tells (captures_script form names most_captures []) old last report said
 
--- what is made before the first write
-pub record PreparedFor : Type 0 where
-  pub name : List ℕ
-  pub report : RunReport
-  pub done : Status
-  pub done_text : List ℕ
-  pub fault : Status
-  pub fault_text : List ℕ
+-- one of the captures ended a command
+abbrev pub CapturesEnd : Bool → FilesView → FilesView → List (List ℕ) → Said → Type 0
+CapturesEnd tells old new names said = (form : ScenarioForm) → Follows tells (captures_script form names most_captures []) old new None said
 
--- it is that of a run of this report
-pub record IsPrepared (name : List ℕ) (report : RunReport) (made : PreparedFor) : Type 0 where
-  pub name_is : made.name ≡ name
-  pub report_is : made.report ≡ report
-  pub done_is : made.done ≡ outcome report.left
-  pub done_text_is : made.done_text ≡ text_of (outcome report.left)
-  pub fault_is : made.fault ≡ WriteFault name
-  pub fault_text_is : made.fault_text ≡ text_of (WriteFault name)
+-- the files of this report were written, all or up to the first that was refused, or memory lacked before
+abbrev pub EndsRun : Bool → FilesView → FilesView → RunReport → Option RunReport → Said → Type 0
+EndsRun tells old new told report said =
+    (Finished tells old new told report said ⊎ Unwritten tells old new told report said) ⊎ Stops old new report said starving
+
+-- the write of the file at this place was refused with this fault
+pub record WriteStops (tells : Bool) (old new : FilesView) (files : List WrittenFile) (at : ℕ) (fault : FileFault) : Type 0 where
+  pub file : WrittenFile
+  pub within : at < length files
+  pub here : file ≡ get_or files at file
+  pub between : FilesView
+  pub written : Written tells old between (take at files)
+  pub refused : WriteRefused tells between new file.name fault
+  pub never_long : fault ≡ TooLong → ⊥
+
+-- the answers are those that these files were not written, in their order
+abbrev pub PreparedFor : List Refusal → List WrittenFile → Type 0
+PreparedFor answers files = map (λ r. saying r.status r.text.items) answers ≡ map (λ file. said_of (unwritten file.name)) files

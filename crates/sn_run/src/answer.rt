@@ -1,6 +1,6 @@
 //! Answers with their texts, and refusals.
-ghost use Rattle.sn_run.specs.Steps.{IsOrHungry};
-ghost use Rattle.sn_run.specs.Texts.{text_of};
+ghost use Rattle.sn_run.specs.Texts.{SaysOrStarves, said_of, saying, starving};
+ghost use Rattle.sn_run.specs.Ways.{way_of};
 ghost use Rattle.std.specs.Prelude.{◌≡◌};
 
 use crate::texts::status_text;
@@ -15,7 +15,7 @@ pub(crate) struct Answer {
     pub(crate) text: Vec<u8>,
 }
 
-/// An answer that ends a command before anything is written, and its text.
+/// An answer without a report, and its text.
 #[derive(Drop)]
 pub(crate) struct Refusal {
     pub(crate) status: Status,
@@ -23,10 +23,9 @@ pub(crate) struct Refusal {
 }
 
 /// The answer for want of memory.
-pub(crate) fn hungry(alloc: Global) -> Answer
-    ensures status { result.status ≡ Status.OutOfMemory }
+pub(crate) fn starved(alloc: Global) -> Answer
+    ensures says { saying result.status result.text.items ≡ starving }
     ensures report { result.report ≡ None }
-    ensures text { result.text.items ≡ text_of result.status }
 {
     Answer {
         status: Status::OutOfMemory,
@@ -37,9 +36,8 @@ pub(crate) fn hungry(alloc: Global) -> Answer
 
 /// The answer of a refusal.
 pub(crate) fn refused(refusal: Refusal) -> Answer
-    ensures status { result.status ≡ refusal.status }
+    ensures says { saying result.status result.text.items ≡ saying refusal.status refusal.text.items }
     ensures report { result.report ≡ None }
-    ensures text { result.text.items ≡ refusal.text.items }
 {
     let Refusal { status, text } = refusal;
     Answer {
@@ -51,8 +49,7 @@ pub(crate) fn refused(refusal: Refusal) -> Answer
 
 /// The refusal for want of memory, which takes none.
 pub(crate) fn out_of_memory(alloc: Global) -> Refusal
-    ensures status { result.status ≡ Status.OutOfMemory }
-    ensures text { result.text.items ≡ text_of result.status }
+    ensures { saying result.status result.text.items ≡ starving }
 {
     Refusal {
         status: Status::OutOfMemory,
@@ -62,8 +59,7 @@ pub(crate) fn out_of_memory(alloc: Global) -> Refusal
 
 /// The refusal with this answer, or for want of memory for its text.
 pub(crate) fn refusal_of(alloc: Global, status: Status) -> Refusal
-    ensures status { IsOrHungry status result.status }
-    ensures text { result.text.items ≡ text_of result.status }
+    ensures { SaysOrStarves (saying result.status result.text.items) (said_of (way_of status)) }
 {
     let Ok(text) = status_text(alloc, &status) else {
         return out_of_memory(alloc);

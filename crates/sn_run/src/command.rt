@@ -1,7 +1,7 @@
 //! The words of a command.
-ghost use Rattle.sn_run.specs.Commands.{IsCommand, IsCommandOf};
+ghost use Rattle.sn_run.specs.Commands.{IsCommand, IsCommandOf, texts};
 ghost use Rattle.std.specs.Fmt.{decimal};
-ghost use Rattle.std.specs.Prelude.{ℕ, List, [], ◌∷◌, IfNone, IfSome, IsTrue, length, map, string_bytes, ◌≡◌, ◌≤◌, ◌↔◌};
+ghost use Rattle.std.specs.Prelude.{ℕ, List, [], ◌∷◌, IfNone, IfSome, IsTrue, length, ◌≡◌, ◌≤◌, ◌↔◌};
 
 use crate::texts::is_same;
 use sn_names::decimal;
@@ -77,8 +77,8 @@ fn three_words(word: &str, file: &str, number: &str) -> Option<Command>
 
 /// The file of a command and what is done with it, or None where the words are no command.
 pub(crate) fn command_of(words: &[String]) -> Option<(&str, Command)>
-    ensures found { IfSome result (λ found. IsCommandOf (map string_bytes words.now) found.0.now found.1) }
-    ensures none { IfNone result (IsCommand (map string_bytes words.now) → ⊥) }
+    ensures found { IfSome result (λ found. IsCommandOf (texts words.now) found.0.now found.1) }
+    ensures none { IfNone result (IsCommand (texts words.now) → ⊥) }
 {
     if words.len() == 2 {
         let (word, file) = (words[0].as_str(), words[1].as_str());

@@ -4,7 +4,7 @@ ghost use Rattle.sn_pcap.specs.Written.{written, written_header, written_record}
 ghost use Rattle.sn_run.specs.Reported.{fits, copied};
 ghost use Rattle.std.specs.Prelude.{ℕ, List, [], ◌∷◌, ◌++◌, IfOk, IsTrue, OnErr, OnOk, length, take, drop, filter, flat_map, ◌+◌, ◌-◌, ◌≡◌, ◌<◌, ◌≤◌, ◌↔◌};
 
-use sn_pcap::{Capture, MAX_PAYLOAD, RecordAt, write_header, write_record};
+use sn_pcap::{Capture, RecordAt, write_header, write_record};
 use std::alloc::{AllocError, Global};
 
 /// Appends a record that isn't oversize.
@@ -12,7 +12,8 @@ fn copy_record(capture: &Capture, at: RecordAt, into: &mut Vec<u8>) -> Result<()
     requires of { IsRecordOf capture.now at }
     requires len { at.len ≡ length (payload_of capture.now at) }
     requires oversize { IsTrue at.oversize ↔ (10240 < at.len) }
-    ensures { OnOk result (into.new.items ≡ into.old.items ++ flat_map written_record (filter fits (payload_of capture.now at ∷ []))) }
+    ensures { OnOk result
+        (into.new.items ≡ into.old.items ++ flat_map written_record (filter fits (payload_of capture.now at ∷ []))) }
 {
     if at.oversize {
         return Ok(());
@@ -24,7 +25,8 @@ fn copy_record(capture: &Capture, at: RecordAt, into: &mut Vec<u8>) -> Result<()
 /// Appends the records at the front of a capture, so many at most and those that aren't oversize,
 /// and answers the place behind the last record read.
 fn copy_front(capture: &Capture, most: u64, into: &mut Vec<u8>) -> Result<u64, AllocError>
-    ensures copies { OnOk result (into.new.items ≡ into.old.items ++ flat_map written_record (copied most (payloads_of capture.now))) }
+    ensures copies { OnOk result
+        (into.new.items ≡ into.old.items ++ flat_map written_record (copied most (payloads_of capture.now))) }
     ensures place { IfOk result (λ at. IsPlace capture.now at) }
     ensures rest { IfOk result (λ at. payloads_at capture.now at ≡ drop most (payloads_of capture.now)) }
 {

@@ -1,24 +1,37 @@
 //! The commands over a scenario, from their words to the bytes written and the text printed.
+//!
+//! * `command`: the words of a command
+//! * `reading`: the files that a command reads
+//! * `commands`: what each command does with its file
+//! * `copying`, `copy`, `values`: which scenarios run so far, and the run of one over captures
+//! * `writing`: the files that a run writes
+//! * `status`, `outcome`, `report`: how a command and a run end, and what a run leaves
+//! * `answer`, `texts`, `action_text`, `printing`: answers, their texts, and the sink that takes them
+//! * `top`: the top call
 #![tactic(auto)]
 
 mod action_text;
-mod alone;
 mod answer;
 mod command;
+mod commands;
 mod copy;
 mod copying;
+mod outcome;
 mod printing;
 mod reading;
 mod report;
-mod run;
 mod status;
 mod texts;
 mod top;
+mod values;
 mod writing;
 
+pub use copying::runs_now;
+pub use outcome::Outcome;
 pub use report::{OutFile, Report};
 pub use status::{Ended, Status};
 pub use top::snabb_main;
+pub use values::run_scenario;
 
 #[cfg(test)]
 mod tests;

@@ -1,34 +1,26 @@
 //! The files that a command reads.
-ghost use Rattle.sn_pcap.specs.Grammar.{PcapText};
 ghost use Rattle.sn_pcap.specs.Places.{payloads_of};
-ghost use Rattle.sn_run.specs.Causes.{most_scenario, most_capture, RefusesText, RefusesCapture};
-ghost use Rattle.sn_run.specs.Copying.{Copying, IsScenario};
-ghost use Rattle.sn_run.specs.Seen.{seen, ReadGave, ReadRefused};
-ghost use Rattle.sn_run.specs.Steps.{IsBadText, IsUnread, StepEnds, TextEnds, GaveText, GaveScenario, GaveCapture};
-ghost use Rattle.sn_run.specs.Texts.{text_of};
-ghost use Rattle.sn_run.specs.declared.command.Command.TheVariants.{Run};
+ghost use Rattle.sn_run.specs.Seen.{ReadGave, ReadRefused};
+ghost use Rattle.sn_run.specs.Steps.{CaptureEnds, CapturesEnd, GaveCapture, GaveText, LeadOn, RefusesText, TextEnds};
+ghost use Rattle.sn_run.specs.Texts.{SaysOrStarves, saying, unread_said};
 ghost use Rattle.sn_scenario.specs.ScenarioText.{scenario_of};
-ghost use Rattle.std.specs.Prelude.{ℕ, List, IfErr, IfOk, Ok, length, ◌≡◌, ◌≤◌};
+ghost use Rattle.std.specs.Prelude.{List, ℕ, IfErr, IfOk, Ok, length, map, ◌≡◌, ◌≤◌};
 
 use crate::Status;
 use crate::answer::{Refusal, out_of_memory, refusal_of};
-use crate::copying::{CopyRun, copying_of};
-use sn_names::FileName;
+use sn_names::{FileName, MAX_CAPTURE, MAX_SCENARIO};
 use sn_outside::{FileFault, Files};
 use sn_pcap::Capture;
 use sn_scenario::{ParseFault, Scenario};
 use std::alloc::Global;
 
-/// The most bytes of a scenario: 1 MiB.
-const MOST_SCENARIO: u64 = 1_048_576;
-
-/// The most bytes of a capture: 16 MiB.
-const MOST_CAPTURE: u64 = 16_777_216;
+/// The most bytes of all captures of a run: 64 MiB, four of the longest, since they are held in
+/// memory together.
+const MAX_CAPTURES: u64 = 67_108_864;
 
 /// The refusal where a file was not read.
 fn unread(alloc: Global, name: &FileName, fault: FileFault) -> Refusal
-    ensures status { IsUnread fault name.now result.status }
-    ensures text { result.text.items ≡ text_of result.status }
+    ensures { SaysOrStarves (saying result.status result.text.items) (unread_said name.now fault) }
 {
     let Ok(name) = name.copy(alloc) else {
         return out_of_memory(alloc);
@@ -47,8 +39,8 @@ fn read_whole<F: Files>(
     limit: u64,
     files: &mut F,
 ) -> Result<Vec<u8>, FileFault>
-    ensures ok { IfOk result (λ bytes. ReadGave (seen F.tells (F.contents files.old) (F.contents files.new) (F.calls files.old) (F.calls files.new) (F.faults files.old) (F.faults files.new)) name.now limit bytes.items) }
-    ensures err { IfErr result (λ fault. ReadRefused (seen F.tells (F.contents files.old) (F.contents files.new) (F.calls files.old) (F.calls files.new) (F.faults files.old) (F.faults files.new)) name.now limit fault) }
+    ensures ok { IfOk result (λ bytes. ReadGave F.tells (F.state files.old) (F.state files.new) name.now limit bytes.items) }
+    ensures err { IfErr result (λ fault. ReadRefused F.tells (F.state files.old) (F.state files.new) name.now limit fault) }
 {
     let mut bytes = Vec::new(alloc);
     match files.read(name, limit, &mut bytes) {
@@ -64,8 +56,7 @@ fn read_whole<F: Files>(
 fn parse_text(alloc: Global, text: &[u8]) -> Result<Scenario, Refusal>
     requires { length text.now ≤ 1048576 }
     ensures ok { IfOk result (λ scenario. scenario_of text.now ≡ Ok scenario) }
-    ensures err { IfErr result (λ refusal. IsBadText text.now refusal.status) }
-    ensures text { IfErr result (λ refusal. refusal.text.items ≡ text_of refusal.status) }
+    ensures err { IfErr result (λ refusal. RefusesText text.now (saying refusal.status refusal.text.items)) }
 {
     match Scenario::parse(alloc, text) {
         Ok(scenario) => Ok(scenario),
@@ -84,11 +75,11 @@ pub(crate) fn read_text<F: Files>(
     file: &FileName,
     files: &mut F,
 ) -> Result<(Vec<u8>, Scenario), Refusal>
-    ensures ok { IfOk result (λ read. GaveText (seen F.tells (F.contents files.old) (F.contents files.new) (F.calls files.old) (F.calls files.new) (F.faults files.old) (F.faults files.new)) file.now read.0.items read.1) }
-    ensures err { IfErr result (λ refusal. TextEnds (seen F.tells (F.contents files.old) (F.contents files.new) (F.calls files.old) (F.calls files.new) (F.faults files.old) (F.faults files.new)) file.now refusal.status) }
-    ensures text { IfErr result (λ refusal. refusal.text.items ≡ text_of refusal.status) }
+    ensures ok { IfOk result (λ read. GaveText F.tells (F.state files.old) (F.state files.new) file.now read.0.items read.1) }
+    ensures err { IfErr result
+        (λ r. TextEnds F.tells (F.state files.old) (F.state files.new) file.now (saying r.status r.text.items)) }
 {
-    let text = match read_whole(alloc, file, MOST_SCENARIO, files) {
+    let text = match read_whole(alloc, file, MAX_SCENARIO, files) {
         Ok(text) => text,
         Err(fault) => return Err(unread(alloc, file, fault)),
     };
@@ -98,53 +89,65 @@ pub(crate) fn read_text<F: Files>(
     }
 }
 
-/// The scenario of the form that a file holds.
-///
-/// # Errors
-/// The answer that ends the run: the file was not read, is too long, holds no scenario, or one that
-/// isn't of the form, or want of memory.
-pub(crate) fn read_scenario<F: Files>(
-    alloc: Global,
-    file: FileName,
-    files: &mut F,
-) -> Result<CopyRun, Refusal>
-    ensures ok { IfOk result (GaveScenario (seen F.tells (F.contents files.old) (F.contents files.new) (F.calls files.old) (F.calls files.new) (F.faults files.old) (F.faults files.new)) file) }
-    ensures err { IfErr result (λ refusal. StepEnds (seen F.tells (F.contents files.old) (F.contents files.new) (F.calls files.old) (F.calls files.new) (F.faults files.old) (F.faults files.new)) file most_scenario (RefusesText Run file) refusal.status) }
-    ensures text { IfErr result (λ refusal. refusal.text.items ≡ text_of refusal.status) }
-{
-    let (text, scenario) = match read_text(alloc, &file, files) {
-        Ok(read) => read,
-        Err(refusal) => return Err(refusal),
-    };
-    let Ok(found) = copying_of(alloc, &text, &scenario) else {
-        return Err(out_of_memory(alloc));
-    };
-    match found {
-        Some(run) => Ok(run),
-        None => Err(refusal_of(alloc, Status::NotYet(file))),
-    }
-}
-
-/// The capture that a file holds.
+/// The capture that a file holds, in at most `limit` bytes, and how many these are.
 ///
 /// # Errors
 /// The answer that ends the run: the file was not read, is too long, or holds no capture, or want
 /// of memory.
-pub(crate) fn read_capture<F: Files>(
+fn read_capture<F: Files>(
     alloc: Global,
-    name: FileName,
+    name: &FileName,
+    limit: u64,
     files: &mut F,
-) -> Result<Capture, Refusal>
-    ensures ok { IfOk result (GaveCapture (seen F.tells (F.contents files.old) (F.contents files.new) (F.calls files.old) (F.calls files.new) (F.faults files.old) (F.faults files.new)) name) }
-    ensures err { IfErr result (λ refusal. StepEnds (seen F.tells (F.contents files.old) (F.contents files.new) (F.calls files.old) (F.calls files.new) (F.faults files.old) (F.faults files.new)) name most_capture (RefusesCapture name) refusal.status) }
-    ensures text { IfErr result (λ refusal. refusal.text.items ≡ text_of refusal.status) }
+) -> Result<(Capture, u64), Refusal>
+    ensures ok { IfOk result (λ read. GaveCapture F.tells (F.state files.old) (F.state files.new) name.now limit read.0) }
+    ensures len { IfOk result (λ read. read.1 ≡ length read.0) }
+    ensures err { IfErr result
+        (λ r. CaptureEnds F.tells (F.state files.old) (F.state files.new) name.now limit (saying r.status r.text.items)) }
 {
-    let bytes = match read_whole(alloc, &name, MOST_CAPTURE, files) {
+    let bytes = match read_whole(alloc, name, limit, files) {
         Ok(bytes) => bytes,
-        Err(fault) => return Err(unread(alloc, &name, fault)),
+        Err(fault) => return Err(unread(alloc, name, fault)),
     };
+    let len = bytes.len() as u64;
     match Capture::open(bytes) {
-        Ok(capture) => Ok(capture),
-        Err(fault) => Err(refusal_of(alloc, Status::BadPcap(name, fault))),
+        Ok(capture) => Ok((capture, len)),
+        Err(fault) => {
+            let Ok(name) = name.copy(alloc) else {
+                return Err(out_of_memory(alloc));
+            };
+            Err(refusal_of(alloc, Status::BadPcap(name, fault)))
+        }
     }
+}
+
+/// The captures of these names, read in their order: each at most 16 MiB, and all at most 64 MiB.
+///
+/// # Errors
+/// The answer that ends the run, as for one capture; later ones aren't read.
+pub(crate) fn read_captures<F: Files>(
+    alloc: Global,
+    names: &[FileName],
+    files: &mut F,
+) -> Result<Vec<Capture>, Refusal>
+    ensures count { IfOk result (λ read. length read.items ≡ length names.now) }
+    ensures ok { IfOk result
+        (λ read. LeadOn F.tells (F.state files.old) (F.state files.new) names.now (map payloads_of read.items)) }
+    ensures err { IfErr result
+        (λ r. CapturesEnd F.tells (F.state files.old) (F.state files.new) names.now (saying r.status r.text.items)) }
+{
+    let mut captures = Vec::new(alloc);
+    let mut room = MAX_CAPTURES;
+    for name in names {
+        let (capture, len) = match read_capture(alloc, name, room.min(MAX_CAPTURE), files) {
+            Ok(read) => read,
+            Err(refusal) => return Err(refusal),
+        };
+        match captures.push(capture) {
+            Ok(()) => {}
+            Err(_) => return Err(out_of_memory(alloc)),
+        }
+        room -= len;
+    }
+    Ok(captures)
 }

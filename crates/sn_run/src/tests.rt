@@ -1,7 +1,11 @@
 //! The worked cases of the top call, over files and a sink in memory.
-use crate::{Ended, Status, snabb_main};
+use crate::report::{OutFile, Report};
+use crate::writing::write_report;
+use crate::{Ended, Outcome, Status, run_scenario, runs_now, snabb_main};
 use sn_names::FileName;
 use sn_outside::{MemFiles, MemSink, NoGate};
+use sn_pcap::Capture;
+use sn_scenario::Scenario;
 use std::alloc::{AllocError, Global};
 use std::process::Abort;
 use std::test::Fail;
@@ -103,7 +107,7 @@ fn expect_copy<R: Threads + Sync + Abort + AllocGlobal>(
 }
 
 #[test]
-fn copy_three_records(rt: HostRuntime) -> Result<(), Fail> {
+fn copy_three_records_gives_these_records(rt: HostRuntime) -> Result<(), Fail> {
     assert_eq!(rt; capture(rt.alloc(), &[60, 60, 1514])?.len(), 1706);
     expect_copy(
         &rt,
@@ -116,24 +120,24 @@ fn copy_three_records(rt: HostRuntime) -> Result<(), Fail> {
 }
 
 #[test]
-fn empty_capture(rt: HostRuntime) -> Result<(), Fail> {
+fn empty_capture_gives_a_header_alone(rt: HostRuntime) -> Result<(), Fail> {
     expect_copy(&rt, 10, &[], &[], 0, "status drained\n")
 }
 
 #[test]
-fn more_records_than_breaths(rt: HostRuntime) -> Result<(), Fail> {
+fn more_records_than_breaths_take_are_left(rt: HostRuntime) -> Result<(), Fail> {
     expect_copy(&rt, 2, &[60; 103], &[60; 102], 1, "status rounds-used 1\n")?;
     expect_copy(&rt, 3, &[60; 103], &[60; 103], 0, "status drained\n")
 }
 
 #[test]
-fn skip_oversize(rt: HostRuntime) -> Result<(), Fail> {
+fn skip_oversize_records_and_no_others(rt: HostRuntime) -> Result<(), Fail> {
     assert_eq!(rt; capture(rt.alloc(), &[10_240])?.len(), 10_280);
     expect_copy(&rt, 10, &[10_240, 10_241], &[10_240], 0, "status drained\n")
 }
 
 #[test]
-fn bad_words(rt: HostRuntime) -> Result<(), Fail> {
+fn bad_words_call_nothing(rt: HostRuntime) -> Result<(), Fail> {
     let usage = "usage: snabbrt run FILE, check FILE, actions FILE WORKER, load N\n";
     for texts in [
         &["run"][..],
@@ -168,7 +172,7 @@ fn sink_fails_while_actions_are_printed(rt: HostRuntime) -> Result<(), Fail> {
 }
 
 #[test]
-fn sink_fails_first(rt: HostRuntime) -> Result<(), Fail> {
+fn sink_fails_first_and_the_file_is_written(rt: HostRuntime) -> Result<(), Fail> {
     let alloc = rt.alloc();
     let held = vec![in alloc;
         ("s", scenario(alloc, 10)?),
@@ -190,7 +194,7 @@ fn sink_fails_first(rt: HostRuntime) -> Result<(), Fail> {
 }
 
 #[test]
-fn big_endian_capture(rt: HostRuntime) -> Result<(), Fail> {
+fn big_endian_capture_is_written_little_endian(rt: HostRuntime) -> Result<(), Fail> {
     let alloc = rt.alloc();
     let mut big = Vec::from_slice(alloc, &[0xa1, 0xb2, 0x3c, 0x4d, 0, 2, 0, 4])?;
     big.extend_from_slice(&[0; 16])?;
@@ -209,7 +213,7 @@ fn big_endian_capture(rt: HostRuntime) -> Result<(), Fail> {
 }
 
 #[test]
-fn cut_third_record(rt: HostRuntime) -> Result<(), Fail> {
+fn cut_third_record_is_told_by_its_number(rt: HostRuntime) -> Result<(), Fail> {
     let alloc = rt.alloc();
     let mut cut = capture(alloc, &[60, 60, 1514])?;
     cut.truncate(24 + 76 + 76 + 10);
@@ -288,7 +292,7 @@ fn expect_text<R: Threads + Sync + Abort + AllocGlobal>(
 }
 
 #[test]
-fn plan_app_replaced(rt: HostRuntime) -> Result<(), Fail> {
+fn plan_app_replaced_stops_one_and_starts_another(rt: HostRuntime) -> Result<(), Fail> {
     let text = format!(in rt.alloc();
         "{FIRST_SIX}7 unlink_output a.out -> b.in\n8 unlink_input a.out -> b.in\n9 free_link a.out -> b.in\n10 stop_app b\n11 start_app c Sink\n12 new_link a.out -> c.in\n13 link_output a.out -> c.in\n14 link_input a.out -> c.in\n15 commit\n"
     )?;
@@ -296,7 +300,7 @@ fn plan_app_replaced(rt: HostRuntime) -> Result<(), Fail> {
 }
 
 #[test]
-fn plan_class_changed(rt: HostRuntime) -> Result<(), Fail> {
+fn plan_class_changed_starts_the_app_anew(rt: HostRuntime) -> Result<(), Fail> {
     let text = format!(in rt.alloc();
         "{FIRST_SIX}7 stop_app b\n8 start_app b Tee\n9 link_input a.out -> b.in\n10 commit\n"
     )?;
@@ -314,7 +318,7 @@ fn arguments_are_printed(rt: HostRuntime) -> Result<(), Fail> {
 }
 
 #[test]
-fn link_twice(rt: HostRuntime) -> Result<(), Fail> {
+fn link_twice_is_a_fault_for_every_command(rt: HostRuntime) -> Result<(), Fail> {
     let twice =
         "scenario 1\nconfig 0 0\napp a Source\napp b Sink\nlink a.out->b.in\nlink  a.out -> b.in \nend\n";
     let once = "scenario 1\nconfig 0 0\napp a Source\napp b Sink\nlink a.out->b.in\nend\n";
@@ -326,7 +330,7 @@ fn link_twice(rt: HostRuntime) -> Result<(), Fail> {
 }
 
 #[test]
-fn too_long_and_no_worker(rt: HostRuntime) -> Result<(), Fail> {
+fn too_long_and_no_worker_are_told(rt: HostRuntime) -> Result<(), Fail> {
     let alloc = rt.alloc();
     for texts in [&["check", "s"][..], &["actions", "s", "0"][..]] {
         let long = vec![in alloc; ("s", vec![in alloc; b'#'; 1_048_577]?)]?;
@@ -373,5 +377,70 @@ fn spacing_is_free(rt: HostRuntime) -> Result<(), Fail> {
         files.bytes(&name(alloc, "out.pcap")?),
         Some(want.as_slice())
     );
+    Ok(())
+}
+
+#[test]
+fn the_longest_name_scenario_and_capture_run(rt: HostRuntime) -> Result<(), Fail> {
+    let alloc = rt.alloc();
+    let word = "s".repeat(alloc, 4096)?;
+    let mut text = scenario(alloc, 1000)?;
+    for _ in text.len()..1_048_576 {
+        text.push(b'#')?;
+    }
+    // 1,635 records of the longest kind and one that fills the file.
+    let mut lengths = vec![in alloc; 10_240_u32; 1636]?;
+    lengths[1635] = 8616;
+    let bytes = capture(alloc, &lengths)?;
+    assert_eq!(rt; bytes.len(), 16_777_216);
+    let held = vec![in alloc; (word.as_str(), text), ("in.pcap", bytes)]?;
+    let mut files = files(alloc, held, &[])?;
+    let (ended, out) = run(&rt, &["run", word.as_str()], &mut files, &[])?;
+    assert_eq!(rt; out.taken(), "status drained\n".as_bytes());
+    let report = ended.report.ok_or("a report")?;
+    let want = capture(alloc, &lengths)?;
+    assert_eq!(rt; report.files.len(), 1);
+    assert!(rt; report.files[0].bytes == want);
+    Ok(())
+}
+
+#[test]
+fn a_scenario_runs_over_values(rt: HostRuntime) -> Result<(), Fail> {
+    let alloc = rt.alloc();
+    let text = scenario(alloc, 2)?;
+    assert!(rt; text.len() <= 1_048_576);
+    let read = Scenario::parse(alloc, &text).map_err(|_| "a scenario")?;
+    let runs = runs_now(alloc, &text, &read)?;
+    assert!(rt; runs);
+    let opened = Capture::open(capture(alloc, &[60; 103])?).map_err(|_| "a capture")?;
+    let captures = vec![in alloc; opened]?;
+    assert!(rt; captures.len() == read.captures().len());
+    let (outcome, report) = run_scenario(alloc, &read, &captures)?;
+    assert_eq!(rt; outcome, Outcome::RoundsUsed(1));
+    assert_eq!(rt; report.left, 1);
+    assert_eq!(rt; report.files.len(), 1);
+    assert!(rt; report.files[0].bytes == capture(alloc, &[60; 102])?);
+    Ok(())
+}
+
+#[test]
+fn behind_a_file_that_is_not_written_no_other_is_tried(rt: HostRuntime) -> Result<(), Fail> {
+    let alloc = rt.alloc();
+    let mut outputs = Vec::new(alloc);
+    for text in ["a", "b", "c"] {
+        let bytes = Vec::from_slice(alloc, text.as_bytes())?;
+        let name = name(alloc, text)?;
+        outputs.push(OutFile { name, bytes })?;
+    }
+    let report = Report {
+        files: outputs,
+        left: 0,
+    };
+    let mut files = files(alloc, Vec::new(alloc), &[2])?;
+    let answer = write_report(alloc, Outcome::Drained, report, &mut files);
+    assert_eq!(rt; answer.text.as_slice(), "cannot write b\n".as_bytes());
+    assert_eq!(rt; files.bytes(&name(alloc, "a")?), Some("a".as_bytes()));
+    assert_eq!(rt; files.bytes(&name(alloc, "c")?), None);
+    assert_eq!(rt; files.calls().len(), 2);
     Ok(())
 }

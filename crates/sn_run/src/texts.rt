@@ -1,7 +1,8 @@
 //! The texts of answers.
-ghost use Rattle.sn_run.specs.Texts.{fault_text, text_line, text_of};
+ghost use Rattle.sn_run.specs.Texts.{fault_text, text_line, text_of, why_text};
+ghost use Rattle.sn_run.specs.Ways.{no_capture, no_scenario};
 ghost use Rattle.std.specs.Fmt.{decimal};
-ghost use Rattle.std.specs.Prelude.{List, [], ◌∷◌, ◌++◌, IfOk, IsTrue, ◌≡◌, ◌↔◌};
+ghost use Rattle.std.specs.Prelude.{List, [], ◌∷◌, ◌++◌, IfOk, IsTrue, bytes_eq, ◌≡◌, ◌↔◌};
 
 use crate::Status;
 use sn_names::{FileName, push_decimal};
@@ -15,7 +16,8 @@ pub(crate) const USAGE: &[u8] =
 
 /// Whether the two are the same bytes.
 pub(crate) fn is_same(a: &[u8], b: &[u8]) -> bool
-    ensures { IsTrue result ↔ (a.now ≡ b.now) }
+    ensures same { IsTrue result ↔ (a.now ≡ b.now) }
+    ensures equal { result ≡ bytes_eq a.now b.now }
 {
     a == b
 }
@@ -58,7 +60,7 @@ fn fault_word(alloc: Global, fault: PcapFault) -> Result<Vec<u8>, AllocError>
 
 /// The line for a file that is no capture.
 fn capture_text(alloc: Global, name: &FileName, fault: PcapFault) -> Result<Vec<u8>, AllocError>
-    ensures { IfOk result (λ text. text.items ≡ text_of (Status.BadPcap name.now fault)) }
+    ensures { IfOk result (λ text. text.items ≡ why_text (no_capture name.now fault)) }
 {
     let word = fault_word(alloc, fault)?;
     let mut text = Vec::from_slice(alloc, b"capture ")?;
@@ -71,7 +73,7 @@ fn capture_text(alloc: Global, name: &FileName, fault: PcapFault) -> Result<Vec<
 
 /// The line for a text that is no scenario.
 fn scenario_text(alloc: Global, fault: ScenarioFault) -> Result<Vec<u8>, AllocError>
-    ensures { IfOk result (λ text. text.items ≡ text_of (Status.BadScenario fault)) }
+    ensures { IfOk result (λ text. text.items ≡ why_text (no_scenario fault)) }
 {
     let mut text = Vec::from_slice(alloc, b"scenario line ")?;
     push_decimal(&mut text, fault.line)?;

@@ -1,22 +1,21 @@
 //! The top call: from the words of a command to its text.
-ghost use Rattle.sn_outside.specs.Counts.{Rose};
-ghost use Rattle.sn_run.specs.Answers.{answer_of, Headline, Reports, FaultRose};
-ghost use Rattle.sn_run.specs.Alone.{CommandPrints, Prints};
-ghost use Rattle.sn_run.specs.Calls.{CallsMade};
-ghost use Rattle.sn_run.specs.Commands.{IsCommand};
-ghost use Rattle.sn_run.specs.Courses.{CommandCause, Course};
-ghost use Rattle.sn_run.specs.Expected.{Expected, Caused, Shown};
-ghost use Rattle.sn_run.specs.Printed.{TookAll, TookAllOf, TookFront, TookFrontOf};
-ghost use Rattle.sn_run.specs.Seen.{seen, Rises};
-ghost use Rattle.sn_run.specs.Steps.{IsOrHungry};
-ghost use Rattle.sn_run.specs.declared.status.Status.{Status};
-ghost use Rattle.std.specs.Prelude.{ℕ, List, true, Some, None, IfOk, IfSome, IsSome, map, string_bytes, length, ◌≡◌, ◌≢◌, ◌↔◌, ◌≤◌};
+ghost use Rattle.sn_outside.specs.Counts.{FaultCounted};
+ghost use Rattle.sn_run.specs.Answers.{answer_of, ended_by, Answered, FaultsCounted, Headline, IsCaused, IsDue, IsTextOf, Leaves, Reports};
+ghost use Rattle.sn_run.specs.Calls.{CallsMade, IsOrStarved};
+ghost use Rattle.sn_run.specs.Commands.{IsCommand, texts};
+ghost use Rattle.sn_run.specs.Courses.{Course, Follows};
+ghost use Rattle.sn_run.specs.Expectations.{Expected};
+ghost use Rattle.sn_run.specs.Printed.{TookAll, TookAllOf, TookFront, TookFrontOf, sunk};
+ghost use Rattle.sn_run.specs.Scripts.{command_script};
+ghost use Rattle.sn_run.specs.Seen.{seen};
+ghost use Rattle.sn_run.specs.Texts.{Said, saying};
+ghost use Rattle.sn_run.specs.Ways.{way_of};
+ghost use Rattle.std.specs.Prelude.{ℕ, List, true, Some, None, IfOk, IfSome, IsSome, map, string_bytes, length, ◌≡◌, ◌≢◌, ◌⊎◌, ◌↔◌, ◌≤◌};
 
-use crate::alone::{actions_file, check_file};
-use crate::answer::{Answer, hungry};
+use crate::answer::{Answer, starved};
 use crate::command::{Command, command_of};
+use crate::commands::{actions_file, check_file, run_file};
 use crate::printing::print_text;
-use crate::run::run_file;
 use crate::texts::USAGE;
 use crate::{Ended, Report, Status};
 use sn_names::{FileName, NameFault};
@@ -36,9 +35,10 @@ pub(crate) fn finish<O: Sink>(
     ensures answer { answer_of result ≡ status }
     ensures report { result.report ≡ report }
     ensures replaced { IsSome result.replaced ↔ (result.status ≡ Status.PrintFault) }
-    ensures text { result.status ≢ Status.PrintFault → TookAll O.tells (O.taken out.old) (O.taken out.new) text.now }
-    ensures front { result.status ≡ Status.PrintFault → TookFront O.tells (O.taken out.old) (O.taken out.new) text.now }
-    ensures print_fault { result.status ≡ Status.PrintFault → Rose (O.faults out.old) (O.faults out.new) }
+    ensures text { result.status ≢ Status.PrintFault → TookAll (sunk O.tells (O.state out.old) (O.state out.new)) text.now }
+    ensures front { result.status ≡ Status.PrintFault → TookFront (sunk O.tells (O.state out.old) (O.state out.new)) text.now }
+    ensures print_fault { result.status ≡ Status.PrintFault → FaultCounted (O.state out.old).faults (O.state out.new).faults }
+    ensures still { result.status ≢ Status.PrintFault → (O.state out.new).faults ≡ (O.state out.old).faults }
 {
     match print_text(out, text) {
         Ok(()) => Ended {
@@ -71,11 +71,16 @@ fn file_name(alloc: Global, file: &str) -> Result<FileName, AllocError>
 fn run_command<F: Files>(alloc: Global, file: &str, command: Command, files: &mut F) -> Answer
     requires filled { 1 ≤ length file.now }
     requires short { length file.now ≤ 4096 }
-    ensures cause { CommandCause (seen F.tells (F.contents files.old) (F.contents files.new) (F.calls files.old) (F.calls files.new) (F.faults files.old) (F.faults files.new)) file.now command result.report result.status }
-    ensures prints { CommandPrints (seen F.tells (F.contents files.old) (F.contents files.new) (F.calls files.old) (F.calls files.new) (F.faults files.old) (F.faults files.new)) file.now command result.status result.text.items }
+    ensures { Follows
+        F.tells
+        (command_script file.now command)
+        (F.state files.old)
+        (F.state files.new)
+        result.report
+        (saying result.status result.text.items) }
 {
     let Ok(name) = file_name(alloc, file) else {
-        return hungry(alloc);
+        return starved(alloc);
     };
     match command {
         Command::Run => run_file(alloc, name, files),
@@ -91,11 +96,14 @@ fn answer_words<F: Files, O: Sink>(
     files: &mut F,
     out: &mut O,
 ) -> Ended
-    ensures course { Course (seen F.tells (F.contents files.old) (F.contents files.new) (F.calls files.old) (F.calls files.new) (F.faults files.old) (F.faults files.new)) (map string_bytes words.now) result.report (answer_of result) }
+    ensures answered { Answered
+        (seen F.tells (F.state files.old) (F.state files.new))
+        (sunk O.tells (O.state out.old) (O.state out.new))
+        (texts words.now)
+        result }
     ensures replaced { IsSome result.replaced ↔ (result.status ≡ Status.PrintFault) }
-    ensures text { result.status ≢ Status.PrintFault → TookAllOf O.tells (O.taken out.old) (O.taken out.new) (Prints (seen F.tells (F.contents files.old) (F.contents files.new) (F.calls files.old) (F.calls files.new) (F.faults files.old) (F.faults files.new)) (map string_bytes words.now) (answer_of result)) }
-    ensures front { result.status ≡ Status.PrintFault → TookFrontOf O.tells (O.taken out.old) (O.taken out.new) (Prints (seen F.tells (F.contents files.old) (F.contents files.new) (F.calls files.old) (F.calls files.new) (F.faults files.old) (F.faults files.new)) (map string_bytes words.now) (answer_of result)) }
-    ensures print_fault { result.status ≡ Status.PrintFault → Rose (O.faults out.old) (O.faults out.new) }
+    ensures print_fault { result.status ≡ Status.PrintFault → FaultCounted (O.state out.old).faults (O.state out.new).faults }
+    ensures still { result.status ≢ Status.PrintFault → (O.state out.new).faults ≡ (O.state out.old).faults }
 {
     let Some((file, command)) = command_of(words) else {
         return finish(Status::BadWords, None, USAGE, out);
@@ -113,9 +121,10 @@ fn answer_words<F: Files, O: Sink>(
 /// `ok`, and `actions FILE WORKER` prints the numbered actions of a worker from 0 to 15.
 ///
 /// The words are those after the program's name, and the file's has 1 to 4096 bytes. The scenario is
-/// read first, and of a run its capture then; then the file is written, and last the text is printed.
+/// read first, and of a run its captures then; then its files are written, and last the text is
+/// printed.
 ///
-/// No clause says, but holds today: no memory is taken once the file is written, no thread is
+/// No clause says, but holds today: no memory is taken from the first write on, no thread is
 /// started, and the gate isn't called.
 pub fn snabb_main<R: Threads + Sync, F: Files, O: Sink, G: Gate>(
     rt: &R,
@@ -125,31 +134,51 @@ pub fn snabb_main<R: Threads + Sync, F: Files, O: Sink, G: Gate>(
     out: &mut O,
     gate: &G,
 ) -> Ended
-    // What the words, the files' contents and their answers make of the call, as a whole.
-    ensures course { Course (seen F.tells (F.contents files.old) (F.contents files.new) (F.calls files.old) (F.calls files.new) (F.faults files.old) (F.faults files.new)) (map string_bytes words.now) result.report (answer_of result) }
+    // What words, files and their answers make of the call: its script, followed step by step, and its text, which the
+    // sink took.
+    ensures answered { Answered
+        (seen F.tells (F.state files.old) (F.state files.new))
+        (sunk O.tells (O.state out.old) (O.state out.new))
+        (texts words.now)
+        result }
 
-    // A report is that of a run of the scenario and the capture that were read, and comes just with these answers.
-    ensures headline { IfSome result.report (Headline (seen F.tells (F.contents files.old) (F.contents files.new) (F.calls files.old) (F.calls files.new) (F.faults files.old) (F.faults files.new)) (map string_bytes words.now)) }
-    ensures reports { Reports (seen F.tells (F.contents files.old) (F.contents files.new) (F.calls files.old) (F.calls files.new) (F.faults files.old) (F.faults files.new)) result.report (answer_of result) }
+    // A report is that of a run of the scenario and the captures that were read, and comes just with these answers.
+    ensures headline { IfSome result.report (Headline (seen F.tells (F.state files.old) (F.state files.new)) (texts words.now)) }
+    ensures reports { Reports result.report (ended_by result) }
+    ensures leaves { F.tells ≡ true
+        → Leaves (F.state files.old).contents (F.state files.new).contents result.report (ended_by result) }
 
-    // The calls made are those of the answer, in their order.
-    ensures calls { CallsMade (seen F.tells (F.contents files.old) (F.contents files.new) (F.calls files.old) (F.calls files.new) (F.faults files.old) (F.faults files.new)) (map string_bytes words.now) (answer_of result) }
+    // The calls made are the script's, in their order, up to the first that was refused.
+    ensures calls { CallsMade (seen F.tells (F.state files.old) (F.state files.new)) (texts words.now) (ended_by result) }
 
     // When each answer comes.
-    ensures bad_words { (answer_of result ≡ Status.BadWords) ↔ (IsCommand (map string_bytes words.now) → ⊥) }
-    ensures caused { F.tells ≡ true → Caused (F.contents files.old) (map string_bytes words.now) (answer_of result) }
-    ensures expected { (status : Status) → F.tells ≡ true → Expected (F.contents files.old) (map string_bytes words.now) status → (Rises (seen F.tells (F.contents files.old) (F.contents files.new) (F.calls files.old) (F.calls files.new) (F.faults files.old) (F.faults files.new)) → ⊥) → IsOrHungry status (answer_of result) }
-    ensures faults { FaultRose (seen F.tells (F.contents files.old) (F.contents files.new) (F.calls files.old) (F.calls files.new) (F.faults files.old) (F.faults files.new)) (answer_of result) }
+    ensures bad_words { (answer_of result ≡ Status.BadWords) ↔ (IsCommand (texts words.now) → ⊥) }
+    ensures caused { IsCaused (seen F.tells (F.state files.old) (F.state files.new)) (texts words.now) (ended_by result) }
+    ensures expected { (said : Said)
+        → IsDue (seen F.tells (F.state files.old) (F.state files.new)) (texts words.now) said
+        → IsOrStarved (ended_by result) said.way }
+    ensures faults { FaultsCounted (F.state files.old).faults (F.state files.new).faults (ended_by result) }
 
     // What is printed of a scenario that was read alone.
-    ensures shown { (text : List ℕ) → F.tells ≡ true → Shown (F.contents files.old) (map string_bytes words.now) text → result.status ≡ Status.Done → TookAll O.tells (O.taken out.old) (O.taken out.new) text }
+    ensures shown { (said : Said)
+        → F.tells ≡ true
+        → Expected (F.state files.old).contents (texts words.now) said
+        → result.status ≡ Status.Done
+        → TookAll (sunk O.tells (O.state out.old) (O.state out.new)) said.text }
 
     // What the sink took.
     ensures replaced { IsSome result.replaced ↔ (result.status ≡ Status.PrintFault) }
     ensures never_replaced { result.replaced ≢ Some Status.PrintFault }
-    ensures text { result.status ≢ Status.PrintFault → TookAllOf O.tells (O.taken out.old) (O.taken out.new) (Prints (seen F.tells (F.contents files.old) (F.contents files.new) (F.calls files.old) (F.calls files.new) (F.faults files.old) (F.faults files.new)) (map string_bytes words.now) (answer_of result)) }
-    ensures front { result.status ≡ Status.PrintFault → TookFrontOf O.tells (O.taken out.old) (O.taken out.new) (Prints (seen F.tells (F.contents files.old) (F.contents files.new) (F.calls files.old) (F.calls files.new) (F.faults files.old) (F.faults files.new)) (map string_bytes words.now) (answer_of result)) }
-    ensures print_fault { result.status ≡ Status.PrintFault → Rose (O.faults out.old) (O.faults out.new) }
+    ensures text { result.status ≢ Status.PrintFault
+        → TookAllOf
+        (sunk O.tells (O.state out.old) (O.state out.new))
+        (IsTextOf (seen F.tells (F.state files.old) (F.state files.new)) (texts words.now) (ended_by result)) }
+    ensures front { result.status ≡ Status.PrintFault
+        → TookFrontOf
+        (sunk O.tells (O.state out.old) (O.state out.new))
+        (IsTextOf (seen F.tells (F.state files.old) (F.state files.new)) (texts words.now) (ended_by result)) }
+    ensures print_fault { result.status ≡ Status.PrintFault → FaultCounted (O.state out.old).faults (O.state out.new).faults }
+    ensures still { result.status ≢ Status.PrintFault → (O.state out.new).faults ≡ (O.state out.old).faults }
 {
     let _ = rt;
     let _ = gate;

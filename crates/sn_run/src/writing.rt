@@ -1,114 +1,89 @@
-//! The file that a run writes, and the answer of a run that was made whole.
-ghost use Rattle.sn_run.specs.Seen.{seen};
-ghost use Rattle.sn_run.specs.Steps.{WriteEnds, IsPrepared, outcome};
-ghost use Rattle.sn_run.specs.Texts.{text_of};
-ghost use Rattle.std.specs.Prelude.{ℕ, List, [], ◌∷◌, IfOk, IfErr, vec_len, vec_capacity, ◌≤◌, ◌≡◌};
+//! The files that a run writes, and the answer of a run that came to its end.
+ghost use Rattle.sn_run.specs.Reported.{WrittenFile, outcome};
+ghost use Rattle.sn_run.specs.Seen.{Written, WrittenUpTo};
+ghost use Rattle.sn_run.specs.Steps.{EndsRun, PreparedFor, WriteStops};
+ghost use Rattle.sn_run.specs.Texts.{Said, said_of, saying};
+ghost use Rattle.sn_run.specs.Ways.{finished, unwritten, way_of};
+ghost use Rattle.std.specs.Prelude.{List, ℕ, IfErr, IfOk, OnOk, length, map, ◌<◌, ◌≡◌};
 
-use crate::answer::{Answer, hungry};
+use crate::answer::{Answer, Refusal, starved};
+use crate::outcome::status_of;
 use crate::texts::status_text;
-use crate::{OutFile, Report, Status};
-use sn_names::FileName;
+use crate::{OutFile, Outcome, Report, Status};
 use sn_outside::{FileFault, Files};
 use std::alloc::{AllocError, Global};
 
-/// What a run needs from its first write on, when no memory is taken any more.
-#[derive(Drop)]
-struct Prepared {
-    name: FileName,
-    report: Report,
-    done: Status,
-    done_text: Vec<u8>,
-    fault: Status,
-    fault_text: Vec<u8>,
+/// The answer with this status.
+fn answer_of(alloc: Global, status: Status) -> Result<Refusal, AllocError>
+    ensures { IfOk result (λ made. saying made.status made.text.items ≡ said_of (way_of status)) }
+{
+    let text = status_text(alloc, &status)?;
+    Ok(Refusal { status, text })
 }
 
-/// How a run ended of which so much is left.
-fn outcome_of(left: u64) -> Status
-    ensures { result ≡ outcome left }
+/// The answers where these files are not written, one for each.
+fn unwritten_answers(alloc: Global, outputs: &[OutFile]) -> Result<Vec<Refusal>, AllocError>
+    ensures { IfOk result (λ made. PreparedFor made.items outputs.now) }
 {
-    if left == 0 {
-        Status::Drained
-    } else {
-        Status::RoundsUsed(left)
+    let mut answers = Vec::with_capacity(alloc, outputs.len())?;
+    for output in outputs {
+        let name = output.name.copy(alloc)?;
+        answers.push(answer_of(alloc, Status::WriteFault(name))?)?;
+    }
+    Ok(answers)
+}
+
+/// Writes files, in their order.
+///
+/// # Errors
+/// The place of the first that was not written, and why; no later one is tried.
+fn write_files<F: Files>(outputs: &[OutFile], files: &mut F) -> Result<(), (usize, FileFault)>
+    ensures ok { OnOk result (Written F.tells (F.state files.old) (F.state files.new) outputs.now) }
+    ensures err { IfErr result (λ stop. WriteStops F.tells (F.state files.old) (F.state files.new) outputs.now stop.0 stop.1) }
+{
+    for (at, output) in outputs.iter().enumerate() {
+        match files.write(&output.name, &output.bytes) {
+            Ok(()) => {}
+            Err(fault) => return Err((at, fault)),
+        }
+    }
+    Ok(())
+}
+
+/// Writes the files of a run, and answers how it ended. No memory is taken from the first write on.
+pub(crate) fn write_report<F: Files>(
+    alloc: Global,
+    ran: Outcome,
+    report: Report,
+    files: &mut F,
+) -> Answer
+    requires { ran ≡ outcome report.left }
+    ensures { EndsRun F.tells (F.state files.old) (F.state files.new) report result.report
+        (saying result.status result.text.items) }
+{
+    let Ok(done) = answer_of(alloc, status_of(ran)) else {
+        return starved(alloc);
+    };
+    let Ok(mut faults) = unwritten_answers(alloc, &report.files) else {
+        return starved(alloc);
+    };
+    match write_files(&report.files, files) {
+        Ok(()) => answer_with(done, report),
+        Err((at, FileFault::Failed)) => answer_with(faults.swap_remove(at), report),
+        Err((_, FileFault::OutOfMemory)) => starved(alloc),
+        Err((_, FileFault::TooLong)) => unreachable!(),
     }
 }
 
-/// The report of one file.
-fn report_of_one(
-    alloc: Global,
-    name: FileName,
-    bytes: Vec<u8>,
-    left: u64,
-) -> Result<Report, AllocError>
-    ensures { IfOk result (λ report. report ≡ record { files = record { name = name; bytes = bytes.items } ∷ []; left = left }) }
+/// The answer with this report.
+fn answer_with(made: Refusal, report: Report) -> Answer
+    ensures says { saying result.status result.text.items ≡ saying made.status made.text.items }
+    ensures report { result.report ≡ Some report }
 {
-    let mut files = Vec::with_capacity(alloc, 1)?;
-    files.push(OutFile { name, bytes })?;
-    Ok(Report { files, left })
-}
-
-/// All that a run needs once it writes.
-fn prepare(alloc: Global, name: FileName, bytes: Vec<u8>, left: u64) -> Result<Prepared, AllocError>
-    ensures { IfOk result (λ made. IsPrepared name (record { files = record { name = name; bytes = bytes.items } ∷ []; left = left }) (record {
-      name = made.name;
-      report = made.report;
-      done = made.done;
-      done_text = made.done_text.items;
-      fault = made.fault;
-      fault_text = made.fault_text.items;
-    })) }
-{
-    let done = outcome_of(left);
-    let done_text = status_text(alloc, &done)?;
-    let fault = Status::WriteFault(name.copy(alloc)?);
-    let fault_text = status_text(alloc, &fault)?;
-    let report = report_of_one(alloc, name.copy(alloc)?, bytes, left)?;
-    Ok(Prepared {
-        name,
-        report,
-        done,
-        done_text,
-        fault,
-        fault_text,
-    })
-}
-
-/// Writes the file of a run, and answers how the run ended.
-pub(crate) fn write_output<F: Files>(
-    alloc: Global,
-    name: FileName,
-    bytes: Vec<u8>,
-    left: u64,
-    files: &mut F,
-) -> Answer
-    ensures ends { WriteEnds (seen F.tells (F.contents files.old) (F.contents files.new) (F.calls files.old) (F.calls files.new) (F.faults files.old) (F.faults files.new)) name (record { files = record { name = name; bytes = bytes.items } ∷ []; left = left }) result.report result.status }
-    ensures later { F.faults files.old ≤ F.faults files.new }
-    ensures text { result.text.items ≡ text_of result.status }
-{
-    let Ok(prepared) = prepare(alloc, name, bytes, left) else {
-        return hungry(alloc);
-    };
-    let Prepared {
-        name,
-        report,
-        done,
-        done_text,
-        fault,
-        fault_text,
-    } = prepared;
-    let written = files.write(&name, &report.files[0].bytes);
-    match written {
-        Ok(()) => Answer {
-            status: done,
-            report: Some(report),
-            text: done_text,
-        },
-        Err(FileFault::Failed) => Answer {
-            status: fault,
-            report: Some(report),
-            text: fault_text,
-        },
-        Err(FileFault::OutOfMemory) => hungry(alloc),
-        Err(FileFault::TooLong) => unreachable!(),
+    let Refusal { status, text } = made;
+    Answer {
+        status,
+        report: Some(report),
+        text,
     }
 }

@@ -2,14 +2,19 @@
 //! with the number of its status.
 #![tactic(auto)]
 
-ghost use Rattle.sn_run.specs.Exit.{exit_number};
+ghost use Rattle.sn_run.specs.Commands.{texts};
+ghost use Rattle.sn_run.specs.Exit.{ExitsWith, exit_number};
+ghost use Rattle.sn_run.specs.Printed.{sunk};
+ghost use Rattle.sn_run.specs.Seen.{seen};
 ghost use Rattle.std.specs.Process.{exit_status};
 ghost use Rattle.std.specs.Prelude.{◌≡◌};
 
-use sn_outside::{NoGate, RealFiles, StdOut};
+use sn_outside::{Files, Gate, NoGate, RealFiles, Sink, StdOut};
 use sn_run::{Status, snabb_main};
+use std::alloc::Global;
 use std::io::ErrorKind;
 use std::process::ExitCode;
+use std::thread::Threads;
 use std::{env, io};
 
 /// The words after the program's name.
@@ -31,6 +36,25 @@ fn exit_code(status: &Status) -> ExitCode
     ExitCode::from(status.number())
 }
 
+/// Runs a command over these files and this sink, and answers the exit code of how it ended.
+fn run_words<R: Threads + Sync, F: Files, O: Sink, G: Gate>(
+    rt: &R,
+    alloc: Global,
+    words: &[String],
+    files: &mut F,
+    out: &mut O,
+    gate: &G,
+) -> ExitCode
+    ensures { ExitsWith
+        (seen F.tells (F.state files.old) (F.state files.new))
+        (sunk O.tells (O.state out.old) (O.state out.new))
+        (texts words.now)
+        (exit_status result) }
+{
+    let ended = snabb_main(rt, alloc, words, files, out, gate);
+    exit_code(&ended.status)
+}
+
 fn main(rt: HostRuntime) -> ExitCode {
     let words = match words_of(&rt) {
         Ok(words) => words,
@@ -40,6 +64,5 @@ fn main(rt: HostRuntime) -> ExitCode {
     };
     let mut files = RealFiles::new(&rt);
     let mut out = StdOut::new(&rt);
-    let ended = snabb_main(&rt, rt.alloc(), &words, &mut files, &mut out, &NoGate);
-    exit_code(&ended.status)
+    run_words(&rt, rt.alloc(), &words, &mut files, &mut out, &NoGate)
 }

@@ -20,3 +20,7 @@ returns-clause-found c =
       short = omega arith;
       within = omega arith;
     }
+
+pub returns-clause-only : goal.returns-clause-only
+returns-clause-only c other d =
+    read_alone c.in-Ok.digits.now c.args.max other c.in-Ok-parse.number (omega arith) c.in-Ok-parse.ensures.value.0 (rw c.in-Ok.ensures.cases.0 d)

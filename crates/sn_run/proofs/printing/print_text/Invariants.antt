@@ -7,8 +7,8 @@ invariant-loop-at g l =
     let sink = g.O.Sink in
     record {
       within : l.at ≤ length l.text;
-      later : sink.faults l.fn.out ≤ sink.faults l.out;
-      taken : sink.tells ≡ true → sink.taken l.out ≡ sink.taken l.fn.out ++ take l.at l.text;
+      still : (sink.state l.out).faults ≡ (sink.state l.fn.out).faults;
+      taken : sink.tells ≡ true → (sink.state l.out).taken ≡ (sink.state l.fn.out).taken ++ take l.at l.text;
     }
 
 -- what is left of it

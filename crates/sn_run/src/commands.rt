@@ -1,0 +1,137 @@
+//! What each command does with its file.
+ghost use Rattle.sn_run.specs.ActionTexts.{actions_text};
+ghost use Rattle.sn_run.specs.Copying.{RunsSoFar};
+ghost use Rattle.sn_run.specs.Courses.{Follows};
+ghost use Rattle.sn_run.specs.Scripts.{captures_script, command_script, most_captures};
+ghost use Rattle.sn_run.specs.Texts.{saying};
+ghost use Rattle.sn_run.specs.declared.command.Command.TheVariants.{Run, Check, Actions};
+ghost use Rattle.sn_scenario.specs.Plans.{plan_of};
+ghost use Rattle.std.specs.Prelude.{List, ℕ, [], IfOk, ◌<◌, ◌≡◌};
+
+use crate::Status;
+use crate::action_text::push_actions;
+use crate::answer::{Answer, refusal_of, refused, starved};
+use crate::copying::runs_now;
+use crate::reading::{read_captures, read_text};
+use crate::texts::status_text;
+use crate::values::run_scenario;
+use crate::writing::write_report;
+use sn_names::FileName;
+use sn_outside::Files;
+use sn_scenario::Scenario;
+use std::alloc::{AllocError, Global};
+
+/// The answer that what was asked for is done, with its text.
+fn done(text: Vec<u8>) -> Answer
+    ensures says { saying result.status result.text.items ≡ saying Status.Done text.items }
+    ensures report { result.report ≡ None }
+{
+    Answer {
+        status: Status::Done,
+        report: None,
+        text,
+    }
+}
+
+/// Reads the captures of a scenario, runs it, and writes what the run leaves.
+fn run_read<F: Files>(alloc: Global, scenario: &Scenario, files: &mut F) -> Answer
+    requires { RunsSoFar scenario.now }
+    ensures { Follows
+        F.tells
+        (captures_script scenario.now scenario.now.captures most_captures [])
+        (F.state files.old)
+        (F.state files.new)
+        result.report
+        (saying result.status result.text.items) }
+{
+    let captures = match read_captures(alloc, scenario.captures(), files) {
+        Ok(captures) => captures,
+        Err(refusal) => return refused(refusal),
+    };
+    let Ok((outcome, report)) = run_scenario(alloc, scenario, &captures) else {
+        return starved(alloc);
+    };
+    write_report(alloc, outcome, report, files)
+}
+
+/// Runs the scenario that a file holds.
+pub(crate) fn run_file<F: Files>(alloc: Global, file: FileName, files: &mut F) -> Answer
+    ensures { Follows
+        F.tells
+        (command_script file Run)
+        (F.state files.old)
+        (F.state files.new)
+        result.report
+        (saying result.status result.text.items) }
+{
+    let (text, scenario) = match read_text(alloc, &file, files) {
+        Ok(read) => read,
+        Err(refusal) => return refused(refusal),
+    };
+    let Ok(runs) = runs_now(alloc, &text, &scenario) else {
+        return starved(alloc);
+    };
+    if !runs {
+        return refused(refusal_of(alloc, Status::NotYet(file)));
+    }
+    run_read(alloc, &scenario, files)
+}
+
+/// Reads the scenario that a file holds, and says that it is one.
+pub(crate) fn check_file<F: Files>(alloc: Global, file: FileName, files: &mut F) -> Answer
+    ensures { Follows
+        F.tells
+        (command_script file Check)
+        (F.state files.old)
+        (F.state files.new)
+        result.report
+        (saying result.status result.text.items) }
+{
+    match read_text(alloc, &file, files) {
+        Ok(_) => {}
+        Err(refusal) => return refused(refusal),
+    }
+    let Ok(text) = status_text(alloc, &Status::Done) else {
+        return starved(alloc);
+    };
+    done(text)
+}
+
+/// The lines of a worker's actions.
+fn plan_text(alloc: Global, scenario: &Scenario, worker: u32) -> Result<Vec<u8>, AllocError>
+    requires { worker < scenario.now.settings.workers }
+    ensures { IfOk result (λ text. text.items ≡ actions_text 1 (plan_of worker scenario.now)) }
+{
+    let actions = scenario.plan(alloc, worker)?;
+    let mut text = Vec::new(alloc);
+    push_actions(&mut text, &actions)?;
+    Ok(text)
+}
+
+/// Prints the numbered actions of a worker of the scenario that a file holds.
+pub(crate) fn actions_file<F: Files>(
+    alloc: Global,
+    file: FileName,
+    worker: u32,
+    files: &mut F,
+) -> Answer
+    ensures { Follows
+        F.tells
+        (command_script file (Actions worker))
+        (F.state files.old)
+        (F.state files.new)
+        result.report
+        (saying result.status result.text.items) }
+{
+    let (_, scenario) = match read_text(alloc, &file, files) {
+        Ok(read) => read,
+        Err(refusal) => return refused(refusal),
+    };
+    if worker >= scenario.settings().workers {
+        return refused(refusal_of(alloc, Status::NoWorker(worker)));
+    }
+    let Ok(text) = plan_text(alloc, &scenario, worker) else {
+        return starved(alloc);
+    };
+    done(text)
+}

@@ -1,0 +1,36 @@
+//! How a run ends.
+ghost use Rattle.sn_run.specs.Reported.{outcome};
+ghost use Rattle.sn_run.specs.Ways.{way_of, finished};
+ghost use Rattle.std.specs.Prelude.{◌≡◌};
+
+use crate::Status;
+
+/// How a run ended.
+#[derive(Clone, Copy, Debug, PartialEq, Eq)]
+pub enum Outcome {
+    /// Nothing was left to do.
+    Drained,
+    /// The rounds were used up, and so much was left: records that were not read.
+    RoundsUsed(u64),
+}
+
+/// How a run ends of which so much is left.
+pub(crate) fn outcome_of(left: u64) -> Outcome
+    ensures { result ≡ outcome left }
+{
+    if left == 0 {
+        Outcome::Drained
+    } else {
+        Outcome::RoundsUsed(left)
+    }
+}
+
+/// The status that tells an outcome.
+pub(crate) fn status_of(outcome: Outcome) -> Status
+    ensures { way_of result ≡ finished outcome }
+{
+    match outcome {
+        Outcome::Drained => Status::Drained,
+        Outcome::RoundsUsed(left) => Status::RoundsUsed(left),
+    }
+}
