@@ -81,7 +81,8 @@ fn unlink_removed(
     old: &BTreeSet<LinkSpec>,
     new: &BTreeSet<LinkSpec>,
 ) -> Result<(), AllocError>
-    ensures { OnOk result (actions.new.items ≡ actions.old.items ++ flat_map unlinking (removed_links old.now.keys new.now.keys)) }
+    ensures { OnOk result
+        (actions.new.items ≡ actions.old.items ++ flat_map unlinking (removed_links old.now.keys new.now.keys)) }
 {
     for link in old {
         if !new.contains(link) {
@@ -112,7 +113,9 @@ fn stop_removed(
     old: &BTreeMap<Name, AppSpec>,
     new: &BTreeMap<Name, AppSpec>,
 ) -> Result<(), AllocError>
-    ensures { OnOk result (actions.new.items ≡ actions.old.items ++ map StopApp (filter (λ name. not (is_some (app_at new.now.entries name))) (keys_of old.now.entries))) }
+    ensures { OnOk result (actions.new.items
+        ≡ actions.old.items
+        ++ map StopApp (filter (λ name. not (is_some (app_at new.now.entries name))) (keys_of old.now.entries))) }
 {
     for name in old.keys() {
         if !new.contains_key(name) {
@@ -129,7 +132,8 @@ fn change_apps(
     old: &BTreeMap<Name, AppSpec>,
     new: &BTreeMap<Name, AppSpec>,
 ) -> Result<(), AllocError>
-    ensures { OnOk result (actions.new.items ≡ actions.old.items ++ flat_map (λ app. change app.0 app.1 (app_at old.now.entries app.0)) new.now.entries) }
+    ensures { OnOk result (actions.new.items
+        ≡ actions.old.items ++ flat_map (λ app. change app.0 app.1 (app_at old.now.entries app.0)) new.now.entries) }
 {
     for (name, spec) in new {
         change_app(alloc, actions, old, name, spec)?;

@@ -19,7 +19,8 @@ pub fn put_app(
     name: Name,
     spec: AppSpec,
 ) -> Result<(), AllocError>
-    ensures ok { OnOk result (finmap.from_entries {R = name_cmp} apps.new.entries ≡ finmap.insert (finmap.from_entries apps.old.entries) name spec) }
+    ensures ok { OnOk result (finmap.from_entries {R = name_cmp} apps.new.entries
+        ≡ finmap.insert (finmap.from_entries apps.old.entries) name spec) }
     ensures err { OnErr result (apps.new.entries ≡ apps.old.entries) }
 {
     apps.insert(name, spec)?;
@@ -28,7 +29,8 @@ pub fn put_app(
 
 /// Takes an app out.
 pub fn take_app(apps: &mut BTreeMap<Name, AppSpec>, name: &Name)
-    ensures { finmap.from_entries {R = name_cmp} apps.new.entries ≡ finmap.remove (finmap.from_entries apps.old.entries) name.now }
+    ensures { finmap.from_entries {R = name_cmp} apps.new.entries
+        ≡ finmap.remove (finmap.from_entries apps.old.entries) name.now }
 {
     apps.remove(name);
 }
@@ -42,7 +44,10 @@ pub fn has_app(apps: &BTreeMap<Name, AppSpec>, name: &Name) -> bool
 
 /// Whether the app that is there is of the class. None where none is there.
 pub fn same_class_there(apps: &BTreeMap<Name, AppSpec>, name: &Name, spec: &AppSpec) -> Option<bool>
-    ensures { result ≡ option_map (λ before. same_class before.class spec.now.class) (finmap.get (finmap.from_entries {R = name_cmp} apps.now.entries) name.now) }
+    ensures { result
+        ≡ option_map
+        (λ before. same_class before.class spec.now.class)
+        (finmap.get (finmap.from_entries {R = name_cmp} apps.now.entries) name.now) }
 {
     let Some(before) = apps.get(name) else {
         return None;
@@ -52,7 +57,8 @@ pub fn same_class_there(apps: &BTreeMap<Name, AppSpec>, name: &Name, spec: &AppS
 
 /// Puts a link in.
 pub fn put_link(links: &mut BTreeSet<LinkSpec>, link: LinkSpec) -> Result<(), AllocError>
-    ensures ok { OnOk result (finset.from_list {R = link_cmp} links.new.keys ≡ finset.insert (finset.from_list links.old.keys) link) }
+    ensures ok { OnOk result
+        (finset.from_list {R = link_cmp} links.new.keys ≡ finset.insert (finset.from_list links.old.keys) link) }
     ensures err { OnErr result (links.new.keys ≡ links.old.keys) }
 {
     links.insert(link)?;

@@ -73,7 +73,8 @@ impl Plain {
     /// Takes a link from its output port.
     fn unlink_output(&mut self, link: &LinkSpec) -> Result<(), ActionFault>
         ensures ok { OnOk result (apply (UnlinkOutput link.now) (plain_of self.old) ≡ Ok (plain_of self.new)) }
-        ensures refused { IfErr result (λ fault. fault ≢ OutOfMemory → apply (UnlinkOutput link.now) (plain_of self.old) ≡ Err fault) }
+        ensures refused { IfErr result
+            (λ fault. fault ≢ OutOfMemory → apply (UnlinkOutput link.now) (plain_of self.old) ≡ Err fault) }
         ensures memory { IfErr result (λ fault. fault ≡ OutOfMemory → IsOk (apply (UnlinkOutput link.now) (plain_of self.old))) }
         ensures err { OnErr result (plain_of self.new ≡ plain_of self.old) }
     {
@@ -87,7 +88,8 @@ impl Plain {
     /// Takes a link from its input port.
     fn unlink_input(&mut self, link: &LinkSpec) -> Result<(), ActionFault>
         ensures ok { OnOk result (apply (UnlinkInput link.now) (plain_of self.old) ≡ Ok (plain_of self.new)) }
-        ensures refused { IfErr result (λ fault. fault ≢ OutOfMemory → apply (UnlinkInput link.now) (plain_of self.old) ≡ Err fault) }
+        ensures refused { IfErr result
+            (λ fault. fault ≢ OutOfMemory → apply (UnlinkInput link.now) (plain_of self.old) ≡ Err fault) }
         ensures memory { IfErr result (λ fault. fault ≡ OutOfMemory → IsOk (apply (UnlinkInput link.now) (plain_of self.old))) }
         ensures err { OnErr result (plain_of self.new ≡ plain_of self.old) }
     {
@@ -101,7 +103,8 @@ impl Plain {
     /// Frees a link that is at no port, neither at its own nor at another.
     fn free_link(&mut self, link: &LinkSpec) -> Result<(), ActionFault>
         ensures ok { OnOk result (apply (FreeLink link.now) (plain_of self.old) ≡ Ok (plain_of self.new)) }
-        ensures refused { IfErr result (λ fault. fault ≢ OutOfMemory → apply (FreeLink link.now) (plain_of self.old) ≡ Err fault) }
+        ensures refused { IfErr result
+            (λ fault. fault ≢ OutOfMemory → apply (FreeLink link.now) (plain_of self.old) ≡ Err fault) }
         ensures memory { IfErr result (λ fault. fault ≡ OutOfMemory → IsOk (apply (FreeLink link.now) (plain_of self.old))) }
         ensures err { OnErr result (plain_of self.new ≡ plain_of self.old) }
     {
@@ -134,8 +137,10 @@ impl Plain {
     /// Starts an app.
     fn start_app(&mut self, name: &Name, spec: &AppSpec) -> Result<(), ActionFault>
         ensures ok { OnOk result (apply (StartApp name.now spec.now) (plain_of self.old) ≡ Ok (plain_of self.new)) }
-        ensures refused { IfErr result (λ fault. fault ≢ OutOfMemory → apply (StartApp name.now spec.now) (plain_of self.old) ≡ Err fault) }
-        ensures memory { IfErr result (λ fault. fault ≡ OutOfMemory → IsOk (apply (StartApp name.now spec.now) (plain_of self.old))) }
+        ensures refused { IfErr result
+            (λ fault. fault ≢ OutOfMemory → apply (StartApp name.now spec.now) (plain_of self.old) ≡ Err fault) }
+        ensures memory { IfErr result
+            (λ fault. fault ≡ OutOfMemory → IsOk (apply (StartApp name.now spec.now) (plain_of self.old))) }
         ensures err { OnErr result (plain_of self.new ≡ plain_of self.old) }
     {
         if has_app(&self.apps, name) {
@@ -152,8 +157,10 @@ impl Plain {
     /// Gives an app another argument.
     fn reconfig_app(&mut self, name: &Name, spec: &AppSpec) -> Result<(), ActionFault>
         ensures ok { OnOk result (apply (ReconfigApp name.now spec.now) (plain_of self.old) ≡ Ok (plain_of self.new)) }
-        ensures refused { IfErr result (λ fault. fault ≢ OutOfMemory → apply (ReconfigApp name.now spec.now) (plain_of self.old) ≡ Err fault) }
-        ensures memory { IfErr result (λ fault. fault ≡ OutOfMemory → IsOk (apply (ReconfigApp name.now spec.now) (plain_of self.old))) }
+        ensures refused { IfErr result (λ fault. fault ≢ OutOfMemory → apply (ReconfigApp name.now spec.now) (plain_of self.old)
+            ≡ Err fault) }
+        ensures memory { IfErr result
+            (λ fault. fault ≡ OutOfMemory → IsOk (apply (ReconfigApp name.now spec.now) (plain_of self.old))) }
         ensures err { OnErr result (plain_of self.new ≡ plain_of self.old) }
     {
         let Some(same) = same_class_there(&self.apps, name, spec) else {
@@ -187,7 +194,8 @@ impl Plain {
     /// Puts a link to its output port.
     fn link_output(&mut self, link: &LinkSpec) -> Result<(), ActionFault>
         ensures ok { OnOk result (apply (LinkOutput link.now) (plain_of self.old) ≡ Ok (plain_of self.new)) }
-        ensures refused { IfErr result (λ fault. fault ≢ OutOfMemory → apply (LinkOutput link.now) (plain_of self.old) ≡ Err fault) }
+        ensures refused { IfErr result
+            (λ fault. fault ≢ OutOfMemory → apply (LinkOutput link.now) (plain_of self.old) ≡ Err fault) }
         ensures memory { IfErr result (λ fault. fault ≡ OutOfMemory → IsOk (apply (LinkOutput link.now) (plain_of self.old))) }
         ensures err { OnErr result (plain_of self.new ≡ plain_of self.old) }
     {
@@ -208,7 +216,8 @@ impl Plain {
     /// Puts a link to its input port.
     fn link_input(&mut self, link: &LinkSpec) -> Result<(), ActionFault>
         ensures ok { OnOk result (apply (LinkInput link.now) (plain_of self.old) ≡ Ok (plain_of self.new)) }
-        ensures refused { IfErr result (λ fault. fault ≢ OutOfMemory → apply (LinkInput link.now) (plain_of self.old) ≡ Err fault) }
+        ensures refused { IfErr result
+            (λ fault. fault ≢ OutOfMemory → apply (LinkInput link.now) (plain_of self.old) ≡ Err fault) }
         ensures memory { IfErr result (λ fault. fault ≡ OutOfMemory → IsOk (apply (LinkInput link.now) (plain_of self.old))) }
         ensures err { OnErr result (plain_of self.new ≡ plain_of self.old) }
     {

@@ -106,7 +106,8 @@ pub fn put_port(
     key: (Name, Name),
     link: LinkSpec,
 ) -> Result<(), AllocError>
-    ensures ok { OnOk result (finmap.from_entries {R = port_cmp} ports.new.entries ≡ finmap.insert (finmap.from_entries ports.old.entries) key link) }
+    ensures ok { OnOk result (finmap.from_entries {R = port_cmp} ports.new.entries
+        ≡ finmap.insert (finmap.from_entries ports.old.entries) key link) }
     ensures err { OnErr result (ports.new.entries ≡ ports.old.entries) }
 {
     ports.insert(key, link)?;
@@ -115,14 +116,16 @@ pub fn put_port(
 
 /// Takes what is at a port.
 pub fn take_port(ports: &mut BTreeMap<(Name, Name), LinkSpec>, app: &Name, port: &Name)
-    ensures { finmap.from_entries {R = port_cmp} ports.new.entries ≡ finmap.remove (finmap.from_entries ports.old.entries) (app.now, port.now) }
+    ensures { finmap.from_entries {R = port_cmp} ports.new.entries
+        ≡ finmap.remove (finmap.from_entries ports.old.entries) (app.now, port.now) }
 {
     ports.retain(|key, _| !is_port(key, app, port));
 }
 
 /// Takes what is at the ports of an app.
 pub fn drop_ports(ports: &mut BTreeMap<(Name, Name), LinkSpec>, name: &Name)
-    ensures { finmap.from_entries {R = port_cmp} ports.new.entries ≡ without_app (finmap.from_entries ports.old.entries) name.now }
+    ensures { finmap.from_entries {R = port_cmp} ports.new.entries
+        ≡ without_app (finmap.from_entries ports.old.entries) name.now }
 {
     ports.retain(|key, _| !is_of_app(key, name));
 }

@@ -7,19 +7,15 @@ ghost use Rattle.std.specs.Option.{option_copied};
 ghost use Rattle.std.specs.Prelude.{IfErr, IfNone, IfOk, IfSome, IsTrue, false, true, ◌++◌, ◌↔◌, ◌∷◌, ◌≡◌};
 
 use crate::ConfigFault;
-use sn_names::{Arg, Class, FileName, Name, decimal};
+use sn_names::{Arg, Class, FileName, MAX_FILE_NAME, MAX_PAYLOAD, Name, decimal};
 use std::alloc::Global;
 
-/// The most payload bytes of a packet. Snabb's packets hold this many (`core.packet`).
-const MOST_PACKET_BYTES: u64 = 10_240;
 /// The last place of a byte in a packet, counted from 0.
 const LAST_PLACE: u64 = 10_239;
 /// The most packets of which a `Sample` passes one: a bound that the format sets.
 const MOST_SAMPLED: u64 = 1_000_000;
 /// The greatest value of a byte.
 const LAST_BYTE: u64 = 255;
-/// The most bytes that a file's name has in a scenario, as the name of one file has on most systems.
-const MOST_FILE_BYTES: usize = 255;
 /// The most bytes of a name.
 const MOST_NAME_BYTES: usize = 64;
 
@@ -57,7 +53,7 @@ fn read_word(alloc: Global, class: Class, word: &[u8]) -> Result<Arg, ConfigFaul
     ensures refused { IfErr result (IsArgFault (TakesWord class word.now)) }
 {
     match class {
-        Class::Source | Class::Truncate => number_arg(word, 0, MOST_PACKET_BYTES),
+        Class::Source | Class::Truncate => number_arg(word, 0, u64::from(MAX_PAYLOAD)),
         Class::Sample => number_arg(word, 1, MOST_SAMPLED),
         Class::ByteFilter => byte_arg(word),
         Class::PcapReader | Class::PcapWriter => file_arg(alloc, word),
@@ -134,7 +130,7 @@ fn file_arg(alloc: Global, word: &[u8]) -> Result<Arg, ConfigFault>
 fn is_file_text(word: &[u8]) -> bool
     ensures { IsTrue result ↔ IsFileText word.now }
 {
-    if word.is_empty() || word.len() > MOST_FILE_BYTES {
+    if word.is_empty() || word.len() > MAX_FILE_NAME {
         return false;
     }
     are_file_bytes(word)

@@ -133,7 +133,8 @@ fn memory_refusal(apps: &BTreeMap<Name, AppSpec>) -> ConfigFault
 /// Puts an app among others.
 fn put_app(apps: &mut BTreeMap<Name, AppSpec>, name: Name, spec: AppSpec) -> Result<(), AllocError>
     ensures ok { OnOk result (apps.new.entries ≡ insert_entry name_cmp apps.old.entries name spec) }
-    ensures found { OnOk result ((q : List ℕ) → app_at apps.new.entries q ≡ cond (is_at (name_cmp name) q) (Some spec) (app_at apps.old.entries q)) }
+    ensures found { OnOk result ((q : List ℕ) → app_at apps.new.entries q
+        ≡ cond (is_at (name_cmp name) q) (Some spec) (app_at apps.old.entries q)) }
     ensures len { OnOk result (length apps.new.entries ≤ length apps.old.entries + 1) }
     ensures err { OnErr result (apps.new.entries ≡ apps.old.entries) }
 {
@@ -144,7 +145,8 @@ fn put_app(apps: &mut BTreeMap<Name, AppSpec>, name: Name, spec: AppSpec) -> Res
 /// Puts a link among others.
 fn put_link(links: &mut BTreeSet<LinkSpec>, link: LinkSpec) -> Result<(), AllocError>
     ensures ok { OnOk result (links.new.keys ≡ insert_key link_cmp links.old.keys link) }
-    ensures found { OnOk result ((q : LinkSpec) → has_link links.new.keys q ≡ cond (is_at (link_cmp link) q) true (has_link links.old.keys q)) }
+    ensures found { OnOk result ((q : LinkSpec) → has_link links.new.keys q
+        ≡ cond (is_at (link_cmp link) q) true (has_link links.old.keys q)) }
     ensures len { OnOk result (length links.new.keys ≤ length links.old.keys + 1) }
     ensures err { OnErr result (links.new.keys ≡ links.old.keys) }
 {

@@ -19,7 +19,7 @@ pub use class::Class;
 pub use decimal_text::{decimal, push_decimal};
 pub use fault::NameFault;
 pub use file_name::FileName;
-pub use limits::{MAX_CAPTURE, MAX_PAYLOAD, MAX_PULL, MAX_SCENARIO};
+pub use limits::{MAX_CAPTURE, MAX_FILE_NAME, MAX_PAYLOAD, MAX_PULL, MAX_SCENARIO};
 pub use link::LinkSpec;
 pub use name::Name;
 pub use roster::Roster;

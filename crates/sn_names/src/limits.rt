@@ -7,6 +7,9 @@ pub const MAX_PAYLOAD: u32 = 10_240;
 /// link's 1,024 places.
 pub const MAX_PULL: u32 = 102;
 
+/// The most bytes of a file's name in a scenario: what file systems allow for one name.
+pub const MAX_FILE_NAME: usize = 255;
+
 /// The most bytes of a scenario: 1 MiB, so that a text that was named by mistake is told before it
 /// fills the memory.
 pub const MAX_SCENARIO: u64 = 1_048_576;

@@ -89,7 +89,8 @@ fn take_app(
 ) -> Result<(), LineFault>
     requires absent { has_app placed.old.config name ≡ false }
     requires taken { arg_of class (option_copied text) ≡ Some arg.now }
-    ensures { Leaves (placed.new, files_form files.new) result (app_taken journal.now lanes.now (files_form files.old) placed.old name class arg.now) }
+    ensures { Leaves (placed.new, files_form files.new) result
+        (app_taken journal.now lanes.now (files_form files.old) placed.old name class arg.now) }
 {
     end_and_file(journal, lanes, files, placed, class, arg)?;
     add_app(&mut placed.config, name, class, text, arg)?;
@@ -107,7 +108,8 @@ pub(crate) fn app_line(
     placed: &mut Placed,
     text: &[u8],
 ) -> Result<(), LineFault>
-    ensures { Leaves (placed.new, files_form files.new) result (app_line journal.now lanes.now (files_form files.old) placed.old (tokens text.now)) }
+    ensures { Leaves (placed.new, files_form files.new) result
+        (app_line journal.now lanes.now (files_form files.old) placed.old (tokens text.now)) }
 {
     let words = app_tokens(text)?;
     let name = name_of(alloc, words.name)?;

@@ -25,7 +25,6 @@ mod why;
 
 pub use fault::{ParseFault, ScenarioFault};
 pub use lane::Lane;
-pub use parse::MOST_SCENARIO_BYTES;
 pub use plain::plain_text;
 pub use scenario::Scenario;
 pub use settings::Settings;

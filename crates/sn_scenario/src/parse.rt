@@ -17,10 +17,6 @@ use sn_names::FileName;
 use std::alloc::{AllocError, Global};
 use std::collections::{BTreeMap, BTreeSet};
 
-/// The most bytes of a scenario's text. Whoever reads one reads at most one byte more, and a line's
-/// number then fits any counter.
-pub const MOST_SCENARIO_BYTES: usize = 1_048_576;
-
 /// The fault of a line.
 fn at_line(line: u64, fault: LineFault) -> ParseFault
     ensures { result ≡ fault_at line fault }

@@ -10,11 +10,8 @@ ghost use Rattle.std.specs.Prelude.{IfSome, ◌≡◌, ◌≤◌};
 use crate::Why;
 use crate::fault::LineFault;
 use sn_config::{ConfigFault, read_arg};
-use sn_names::{Arg, Class, FileName, LinkSpec, Name, NameFault, decimal};
+use sn_names::{Arg, Class, FileName, LinkSpec, MAX_FILE_NAME, Name, NameFault, decimal};
 use std::alloc::Global;
-
-/// The most bytes that a file's name has in a scenario.
-const MOST_FILE_BYTES: usize = 255;
 
 /// The number that a token writes within these bounds.
 #[tactic(auto, using(crate::proofs::TokenReadings::numbers))]
@@ -82,7 +79,7 @@ pub(crate) fn file_of(alloc: Global, token: &[u8]) -> Result<FileName, LineFault
 fn is_file(token: &[u8]) -> bool
     ensures { result ≡ is_file token.now }
 {
-    1 <= token.len() && token.len() <= MOST_FILE_BYTES && are_file_bytes(token)
+    1 <= token.len() && token.len() <= MAX_FILE_NAME && are_file_bytes(token)
 }
 
 /// Whether each byte is visible ASCII.

@@ -76,7 +76,8 @@ pub(crate) struct AppTokens<'a> {
 
 /// The tokens of an app that are left.
 pub(crate) fn app_tokens(text: &[u8]) -> Result<AppTokens<'_>, LineFault>
-    ensures { Gives (λ t. record { name = t.name.now; class = t.class.now; arg = option_copied t.arg }) result (app_tokens (tokens text.now)) }
+    ensures { Gives (λ t. record { name = t.name.now; class = t.class.now; arg = option_copied t.arg }) result
+        (app_tokens (tokens text.now)) }
 {
     let (name, rest) = next_token(text)?;
     let (class, rest) = next_token(rest)?;

@@ -1,5 +1,6 @@
 //! Each fault with its line, and the worked cases.
 use super::*;
+use sn_names::MAX_SCENARIO;
 use std::alloc::Global;
 use std::test::Fail;
 
@@ -115,7 +116,7 @@ const FAULTY: [(&[u8], u64, Why); 21] = [
 ];
 
 fn fault_of(alloc: Global, text: &[u8]) -> Option<ScenarioFault> {
-    if text.len() > MOST_SCENARIO_BYTES {
+    if text.len() > MAX_SCENARIO as usize {
         return None;
     }
     match Scenario::parse(alloc, text) {
@@ -160,7 +161,7 @@ fn each_fault_is_found_on_its_line(rt: HostRuntime) -> Result<(), Fail> {
 
 #[test]
 fn settings_that_are_not_given_have_their_defaults(rt: HostRuntime) -> Result<(), Fail> {
-    assert!(rt; ONCE.len() < MOST_SCENARIO_BYTES);
+    assert!(rt; ONCE.len() < MAX_SCENARIO as usize);
     let once = Scenario::parse(rt.alloc(), ONCE)?;
     assert!(rt; once.stops().is_empty());
     let scenario = Scenario::parse(rt.alloc(), b"scenario 1\n")?;
@@ -182,7 +183,7 @@ fn settings_that_are_not_given_have_their_defaults(rt: HostRuntime) -> Result<()
 
 #[test]
 fn an_app_that_is_replaced_is_planned_and_due(rt: HostRuntime) -> Result<(), Fail> {
-    assert!(rt; REPLACED.len() < MOST_SCENARIO_BYTES);
+    assert!(rt; REPLACED.len() < MAX_SCENARIO as usize);
     let scenario = Scenario::parse(rt.alloc(), REPLACED)?;
     let settings = scenario.settings();
     assert!(rt; settings.workers > 0);
@@ -197,8 +198,8 @@ fn an_app_that_is_replaced_is_planned_and_due(rt: HostRuntime) -> Result<(), Fai
 
 #[test]
 fn the_longest_text_is_read_and_a_fault_far_down_is_found(rt: HostRuntime) -> Result<(), Fail> {
-    let longest = long_text(rt.alloc(), b"", b'\n', MOST_SCENARIO_BYTES - 11)?;
-    assert!(rt; longest.len() <= MOST_SCENARIO_BYTES);
+    let longest = long_text(rt.alloc(), b"", b'\n', MAX_SCENARIO as usize - 11)?;
+    assert!(rt; longest.len() <= MAX_SCENARIO as usize);
     let scenario = Scenario::parse(rt.alloc(), &longest)?;
     assert!(rt; scenario.stops().is_empty());
     let mut faulty = long_text(rt.alloc(), b"", b'\n', 2000)?;
