@@ -5,6 +5,7 @@ ghost use Rattle.sn_pcap.specs.Faults.{HasFault};
 ghost use Rattle.sn_pcap.specs.Places.{payloads_of};
 
 use super::*;
+use sn_names::MAX_PAYLOAD;
 use std::alloc::{AllocError, Global};
 use std::test::Fail;
 
