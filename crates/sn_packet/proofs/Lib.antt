@@ -1,0 +1,5 @@
+mod SlotSums
+mod FreePlaces
+mod Writes
+mod Views
+pub mod Puts
