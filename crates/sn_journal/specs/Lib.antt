@@ -1,0 +1,4 @@
+pub mod Cost
+pub mod JournalState
+pub mod HandOvers
+pub mod Holding
