@@ -2,22 +2,26 @@
 use Rattle.std.specs.Prelude.{◌≡◌, ◌⊎◌, ℕ, List, [], ◌∷◌, Contains}
 use Rattle.atomic_table.specs.Seated.{TableId}
 
+-- which channel it is
+abbrev pub ChannelId : Type 0
+ChannelId = TableId
+
 -- the channel that a speaker belongs to, and the numbers that it said, the first first
 pub record SpeakerLog : Type 0 where
-  pub channel : TableId
+  pub channel : ChannelId
   pub said : List ℕ
 
 -- the channel that a listener belongs to, the words that it loaded, the first first,
 -- and the number that the speaker had said last when the two last met, 0 before they met
 pub record ListenerLog : Type 0 where
-  pub channel : TableId
+  pub channel : ChannelId
   pub heard : List ℕ
   pub met : ℕ
 
-abbrev pub speaker_log : TableId → List ℕ → SpeakerLog
+abbrev pub speaker_log : ChannelId → List ℕ → SpeakerLog
 speaker_log channel said = record { channel = channel; said = said }
 
-abbrev pub listener_log : TableId → List ℕ → ℕ → ListenerLog
+abbrev pub listener_log : ChannelId → List ℕ → ℕ → ListenerLog
 listener_log channel heard met = record { channel = channel; heard = heard; met = met }
 
 -- the number said last, and 0 where nothing was said

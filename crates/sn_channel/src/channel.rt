@@ -20,9 +20,9 @@ pub struct Channel {
 impl Model for Channel {
     ghost use Rattle.std.specs.Prelude.{◌≡◌};
     ghost use Rattle.crossbeam_utils.specs.Padded.{padded_value};
-    ghost use Rattle.atomic_table.specs.Seated.{TableId};
+    ghost use Rattle.sn_channel.specs.Ends.{ChannelId};
 
-    ghost Value = { TableId };
+    ghost Value = { ChannelId };
 
     ghost view = { λ channel. (padded_value channel.table).shared.table_id };
 
