@@ -79,6 +79,7 @@ impl Hold {
         ensures at { at_of self.new ≡ put_at result (Some packet) (at_of self.old) }
         ensures free { self.new.free ≡ self.old.free }
         ensures used { used_of self.new ≡ put_at result (Some packet) (used_of self.old) }
+        ensures laid { used_of self.new result ≡ Some packet }
         ensures frees { frees_of self.new ≡ frees_of self.old }
         ensures room { self.new.room + 1 ≡ self.old.room }
         ensures weight { (f : ℕ → ℕ → ℕ) → weight f self.new ≡ weight f self.old + f packet.number packet.turn }
@@ -108,6 +109,7 @@ impl Hold {
         ensures last { IfSome result (λ place. self.old.free ≡ self.new.free ++ place ∷ []) }
         ensures held { IfSome result (λ place. IsSome (at_of self.old place)) }
         ensures once { IfSome result (λ place. among self.new.free place ≡ 0) }
+        ensures was_free { IfSome result (λ place. used_of self.old place ≡ None) }
         ensures used { IfSome result (λ place. used_of self.new ≡ put_at place (at_of self.old place) (used_of self.old)) }
         ensures frees { IfSome result (λ place. frees_of self.old ≡ frees_of self.new ++ there self.old place ∷ []) }
         ensures rest { self.new ≡ record self.old { free = self.new.free } }

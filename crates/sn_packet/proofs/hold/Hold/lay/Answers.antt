@@ -9,6 +9,11 @@ returns-clause-weight c =
     rw (sym c.self.view_is)
     (λ f. sum_by-filled (slot_weight f) refl c.self.inside.cells.slots c.insert_reserved.new.self.slots c.insert_reserved.result c.args.packet c.insert_reserved.ensures.was_vacant c.insert_reserved.ensures.updates.changed c.insert_reserved.ensures.updates.others)
 
+pub returns-clause-laid : goal.returns-clause-laid
+returns-clause-laid c =
+    let unlisted = vacant_is_unlisted c.self.inside.cells.slots c.self.inside.free.items c.insert_reserved.result c.self.invariant.once c.insert_reserved.ensures.was_vacant in
+    rw unlisted c.insert_reserved.ensures.updates.changed
+
 pub returns-clause-frees : goal.returns-clause-frees
 returns-clause-frees c =
     let old = c.self.inside.cells in
