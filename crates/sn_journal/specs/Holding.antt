@@ -60,8 +60,8 @@ all_speak_of_held held [] = true
 all_speak_of_held held (entry ∷ entries) = speaks_of_held held entry && all_speak_of_held (held_after held entry) entries
 
 -- each entry of a journal gives and names only packets that are held then
-abbrev pub GivesOnlyHeld : List Entry → Type 0
-GivesOnlyHeld entries = all_speak_of_held [] entries ≡ true
+pub record GivesOnlyHeld (entries : List Entry) : Type 0 where
+  pub each : all_speak_of_held [] entries ≡ true
 
 -- what a packet weighs, if there is one, by any function of number and turn
 abbrev pub weight_of : (ℕ → ℕ → ℕ) → Option PacketName → ℕ

@@ -7,4 +7,4 @@ pub returns-clause-held : goal.returns-clause-held
 returns-clause-held c = λ entries entry. held_from-append [] entries (entry ∷ [])
 
 pub returns-clause-only : goal.returns-clause-only
-returns-clause-only c = λ entries entry only one. speak-append [] entries (entry ∷ []) only (and_from _ _ one refl)
+returns-clause-only c = λ entries entry only one. record { each = speak-append [] entries (entry ∷ []) only.each (and_from _ _ one refl) }

@@ -6,7 +6,7 @@ pub returns-clause-held : goal.returns-clause-held
 returns-clause-held c = held_from-append []
 
 pub returns-clause-first : goal.returns-clause-first
-returns-clause-first c = λ before after only. (speak-parts [] before after only).0
+returns-clause-first c = λ before after only. record { each = (speak-parts [] before after only.each).0 }
 
 pub returns-clause-then : goal.returns-clause-then
-returns-clause-then c = λ before after only. (speak-parts [] before after only).1
+returns-clause-then c = λ before after only. (speak-parts [] before after only.each).1
