@@ -69,7 +69,9 @@ fn a_plain_form_takes_the_actions_of_a_configuration(rt: HostRuntime) -> Result<
 }
 
 #[test]
-fn refused_port_app_event_tells_a_taken_port_and_a_missing_app(rt: HostRuntime) -> Result<(), Fail> {
+fn refused_port_app_event_tells_a_taken_port_and_a_missing_app(
+    rt: HostRuntime,
+) -> Result<(), Fail> {
     let mut config = linked(rt.alloc(), b"b", Class::Sink, b"a.out -> b.in")?;
     config.add_app(Name::parse(rt.alloc(), b"c")?, Class::Sink, None)?;
     let refused = config.add_link(LinkSpec::parse(rt.alloc(), b"a.out -> c.in")?);
