@@ -13,6 +13,3 @@ pub use action::Action;
 pub use differences::diff;
 pub use fault::ActionFault;
 pub use plain::Plain;
-
-#[cfg(test)]
-mod tests;

@@ -10,6 +10,3 @@ pub use app_spec::AppSpec;
 pub use arg_text::read_arg;
 pub use config::Config;
 pub use fault::ConfigFault;
-
-#[cfg(test)]
-mod tests;

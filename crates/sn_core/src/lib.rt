@@ -24,8 +24,6 @@ mod seat;
 mod seat_events;
 mod state;
 mod steps;
-#[cfg(test)]
-mod tests;
 
 pub use events::{Event, Owner, Side, Stepped};
 pub use laws::{emptied_queues, lanes_stay_sound};

@@ -23,6 +23,3 @@ pub use limits::{MAX_CAPTURE, MAX_FILE_NAME, MAX_PAYLOAD, MAX_PULL, MAX_SCENARIO
 pub use link::LinkSpec;
 pub use name::Name;
 pub use roster::Roster;
-
-#[cfg(test)]
-mod tests;

@@ -28,8 +28,3 @@ pub use real_files::RealFiles;
 pub use sink::Sink;
 pub use std_out::StdOut;
 pub use streams::{read_within, write_some, write_whole};
-
-#[cfg(test)]
-mod full_disk;
-#[cfg(test)]
-mod tests;

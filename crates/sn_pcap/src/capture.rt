@@ -1,6 +1,6 @@
 //! A capture, opened once and then read record by record.
 
-ghost use Rattle.std.specs.Prelude.{◌≡◌, ℕ, List, IfOk, IfErr, OnErr, IfSome, IfNone};
+ghost use Rattle.std.specs.Prelude.{◌≡◌, ℕ, List, IfOk, IfErr, OnErr, IfSome, IfNone, length};
 ghost use Rattle.sn_pcap.specs.declared.fault.PcapFault.{PcapFault};
 ghost use Rattle.sn_pcap.specs.Faults.{HasFault};
 ghost use Rattle.sn_pcap.specs.Grammar.{PcapText};
@@ -67,6 +67,13 @@ impl Capture {
     {
         let order = order_if_whole(&bytes)?;
         Ok(Capture { bytes, order })
+    }
+
+    /// How many bytes the capture has, its header among them.
+    pub fn size(&self) -> usize
+        ensures { result ≡ length self.now }
+    {
+        self.bytes.len()
     }
 
     /// Where the first record begins, or the capture ends: 24 bytes from its start.

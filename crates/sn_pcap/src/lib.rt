@@ -14,6 +14,3 @@ pub use fault::PcapFault;
 pub use laws::{no_fault, one_fault, one_reading, written_is_read};
 pub use record::RecordAt;
 pub use writing::{write_header, write_record};
-
-#[cfg(test)]
-mod tests;

@@ -67,7 +67,8 @@ pub(crate) fn copy_capture(
     ensures file { IfOk result (λ made. made.0.items ≡ written (copied most (payloads_of capture.now))) }
     ensures left { IfOk result (λ made. made.1 ≡ length (payloads_of capture.now) - most) }
 {
-    let mut file = Vec::new(alloc);
+    // Room for the whole capture, so that its pages are got once and nothing moves.
+    let mut file = Vec::with_capacity(alloc, capture.size())?;
     write_header(&mut file)?;
     let at = copy_front(capture, most, &mut file)?;
     let left = count_from(capture, at);

@@ -32,6 +32,3 @@ pub use report::{OutFile, Report};
 pub use status::{Ended, Status};
 pub use top::snabb_main;
 pub use values::run_scenario;
-
-#[cfg(test)]
-mod tests;

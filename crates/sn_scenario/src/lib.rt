@@ -30,6 +30,3 @@ pub use scenario::Scenario;
 pub use settings::Settings;
 pub use stop::StopLine;
 pub use why::Why;
-
-#[cfg(test)]
-mod tests;

@@ -1,6 +1,6 @@
 //! What no clause says of the core by itself: worked cases, a table of all events, and a long run.
 
-use crate::{CoreState, Event, Owner, Side, Stepped};
+use sn_core::{CoreState, Event, Owner, Side, Stepped};
 use std::alloc::AllocError;
 use std::test::Fail;
 

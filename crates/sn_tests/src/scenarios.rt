@@ -1,7 +1,8 @@
-//! Each fault with its line, and the worked cases.
-use super::*;
+//! The text of each fault with its line, the defaults, and the worked numbers of a plan.
 use sn_names::MAX_SCENARIO;
-use std::alloc::Global;
+use sn_scenario::*;
+use std::alloc::{AllocError, Global};
+use std::process::Abort;
 use std::test::Fail;
 
 /// Two configurations, of which the second replaces an app.
@@ -115,6 +116,7 @@ const FAULTY: [(&[u8], u64, Why); 21] = [
     (b"scenario 1\nconfig 0 0", 3, Why::NoEnd),
 ];
 
+/// Where a text first fails, and at which check.
 fn fault_of(alloc: Global, text: &[u8]) -> Option<ScenarioFault> {
     if text.len() > MAX_SCENARIO as usize {
         return None;
@@ -125,54 +127,87 @@ fn fault_of(alloc: Global, text: &[u8]) -> Option<ScenarioFault> {
     }
 }
 
-/// A scenario's first line, these words, and one byte so often.
-fn long_text(alloc: Global, words: &[u8], byte: u8, count: usize) -> Result<Vec<u8>, Fail> {
-    let mut text = b"scenario 1\n".to_vec(alloc)?;
-    text.extend_from_slice(words)?;
-    for _ in 0..count {
-        text.push(byte)?;
+/// The scenario that a text spells.
+fn parsed(alloc: Global, text: &[u8]) -> Result<Scenario, Fail> {
+    if text.len() > MAX_SCENARIO as usize {
+        return Err("a shorter text")?;
     }
-    Ok(text)
+    match Scenario::parse(alloc, text) {
+        Ok(scenario) => Ok(scenario),
+        Err(_) => Err("a scenario")?,
+    }
+}
+
+/// A scenario's first line, these words, one byte so often, and other words.
+fn long_text(
+    alloc: Global,
+    words: &[u8],
+    byte: u8,
+    count: usize,
+    last: &[u8],
+) -> Result<Vec<u8>, AllocError> {
+    let long = vec![in alloc; byte; count]?;
+    [b"scenario 1\n", words, &long, last].concat(alloc)
+}
+
+/// Expects that a long text has this first fault.
+fn expect_long<R: Abort + AllocGlobal>(
+    rt: &R,
+    words: &[u8],
+    byte: u8,
+    count: usize,
+    last: &[u8],
+    fault: ScenarioFault,
+) -> Result<(), Fail> {
+    let text = long_text(rt.alloc(), words, byte, count, last)?;
+    assert_eq!(rt; fault_of(rt.alloc(), &text), Some(fault));
+    Ok(())
 }
 
 #[test]
 fn each_fault_is_found_on_its_line(rt: HostRuntime) -> Result<(), Fail> {
     for (text, line, why) in FAULTY {
-        assert_eq!(rt;
-            fault_of(rt.alloc(), text),
-            Some(ScenarioFault { line, why })
-        );
+        let want = ScenarioFault { line, why };
+        assert_eq!(rt; fault_of(rt.alloc(), text), Some(want));
     }
-    let long = long_text(rt.alloc(), b"pool ", b'1', 1020)?;
     let why = Why::Long;
-    assert_eq!(rt;
-        fault_of(rt.alloc(), &long),
-        Some(ScenarioFault { line: 2, why })
-    );
-    let file = long_text(rt.alloc(), b"journal ", b'1', 256)?;
+    expect_long(
+        &rt,
+        b"pool ",
+        b'1',
+        1020,
+        b"",
+        ScenarioFault { line: 2, why },
+    )?;
     let why = Why::FileBad;
-    assert_eq!(rt;
-        fault_of(rt.alloc(), &file),
-        Some(ScenarioFault { line: 2, why })
-    );
-    assert_eq!(rt; Why::TooMany.word(), "too-many");
-    Ok(())
+    expect_long(
+        &rt,
+        b"journal ",
+        b'1',
+        256,
+        b"",
+        ScenarioFault { line: 2, why },
+    )
 }
 
 #[test]
+fn a_check_is_printed_by_its_word(rt: HostRuntime) {
+    assert_eq!(rt; Why::TooMany.word(), "too-many");
+}
+
+/// The settings of a text that gives none.
+const DEFAULTS: Settings = Settings {
+    pool: 4096,
+    workers: 1,
+    breaths: 100,
+    rounds: 10,
+    restarts: 0,
+};
+
+#[test]
 fn settings_that_are_not_given_have_their_defaults(rt: HostRuntime) -> Result<(), Fail> {
-    assert!(rt; ONCE.len() < MAX_SCENARIO as usize);
-    let once = Scenario::parse(rt.alloc(), ONCE)?;
-    assert!(rt; once.stops().is_empty());
-    let scenario = Scenario::parse(rt.alloc(), b"scenario 1\n")?;
-    let defaults = Settings {
-        pool: 4096,
-        workers: 1,
-        breaths: 100,
-        rounds: 10,
-        restarts: 0,
-    };
-    assert_eq!(rt; scenario.settings(), defaults);
+    let scenario = parsed(rt.alloc(), ONCE)?;
+    assert_eq!(rt; scenario.settings(), DEFAULTS);
     assert!(rt; scenario.journal().is_none());
     assert_eq!(rt; scenario.lanes().len(), 0);
     assert_eq!(rt; scenario.stops().len(), 0);
@@ -183,13 +218,19 @@ fn settings_that_are_not_given_have_their_defaults(rt: HostRuntime) -> Result<()
 
 #[test]
 fn an_app_that_is_replaced_is_planned_and_due(rt: HostRuntime) -> Result<(), Fail> {
-    assert!(rt; REPLACED.len() < MAX_SCENARIO as usize);
-    let scenario = Scenario::parse(rt.alloc(), REPLACED)?;
-    let settings = scenario.settings();
-    assert!(rt; settings.workers > 0);
-    assert_eq!(rt; scenario.plan(rt.alloc(), 0)?.len(), 15);
+    let scenario = parsed(rt.alloc(), REPLACED)?;
+    assert!(rt; scenario.settings().workers > 0);
+    let plan = scenario.plan(rt.alloc(), 0)?;
+    assert_eq!(rt; plan.len(), 15);
     assert_eq!(rt; scenario.due(rt.alloc(), 0, 0)?, 6);
     assert_eq!(rt; scenario.due(rt.alloc(), 0, 1)?, 15);
+    Ok(())
+}
+
+#[test]
+fn a_worker_has_a_roster(rt: HostRuntime) -> Result<(), Fail> {
+    let scenario = parsed(rt.alloc(), REPLACED)?;
+    assert!(rt; scenario.settings().workers > 0);
     let roster = scenario.roster(rt.alloc(), 0)?;
     assert_eq!(rt; roster.apps.len(), 3);
     assert_eq!(rt; roster.links.len(), 2);
@@ -198,16 +239,17 @@ fn an_app_that_is_replaced_is_planned_and_due(rt: HostRuntime) -> Result<(), Fai
 
 #[test]
 fn the_longest_text_is_read_and_a_fault_far_down_is_found(rt: HostRuntime) -> Result<(), Fail> {
-    let longest = long_text(rt.alloc(), b"", b'\n', MAX_SCENARIO as usize - 11)?;
-    assert!(rt; longest.len() <= MAX_SCENARIO as usize);
-    let scenario = Scenario::parse(rt.alloc(), &longest)?;
+    let longest = long_text(rt.alloc(), b"", b'\n', MAX_SCENARIO as usize - 11, b"")?;
+    assert_eq!(rt; longest.len(), MAX_SCENARIO as usize);
+    let scenario = parsed(rt.alloc(), &longest)?;
     assert!(rt; scenario.stops().is_empty());
-    let mut faulty = long_text(rt.alloc(), b"", b'\n', 2000)?;
-    faulty.extend_from_slice(b"pool 0\n")?;
     let why = Why::Number;
-    assert_eq!(rt;
-        fault_of(rt.alloc(), &faulty),
-        Some(ScenarioFault { line: 2002, why })
-    );
-    Ok(())
+    expect_long(
+        &rt,
+        b"",
+        b'\n',
+        2000,
+        b"pool 0\n",
+        ScenarioFault { line: 2002, why },
+    )
 }

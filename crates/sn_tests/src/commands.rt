@@ -1,0 +1,114 @@
+//! A command over files in memory, and what is expected of it.
+use crate::names::file_name;
+use sn_outside::{MemFiles, MemSink, NoGate};
+use sn_run::{Ended, snabb_main};
+use std::alloc::{AllocError, Global};
+use std::process::Abort;
+use std::test::Fail;
+use std::thread::Threads;
+
+/// The header of a written capture.
+const HEADER: [u8; 24] = [
+    0xd4, 0xc3, 0xb2, 0xa1, 2, 0, 4, 0, 0, 0, 0, 0, 0, 0, 0, 0, 0xff, 0xff, 0, 0, 1, 0, 0, 0,
+];
+
+/// A capture of records of these lengths.
+pub fn capture(alloc: Global, lengths: &[u32]) -> Result<Vec<u8>, AllocError> {
+    let mut bytes = Vec::from_slice(alloc, &HEADER)?;
+    for len in lengths {
+        bytes.extend_from_slice(&[0; 8])?;
+        bytes.extend_from_slice(&len.to_le_bytes())?;
+        bytes.extend_from_slice(&len.to_le_bytes())?;
+        for j in 0..*len {
+            bytes.push((j % 251) as u8)?;
+        }
+    }
+    Ok(bytes)
+}
+
+/// The scenario that copies `in.pcap` into `out.pcap` in one round of so many breaths.
+pub fn scenario(alloc: Global, breaths: u32) -> Result<String, AllocError> {
+    format!(in alloc;
+        "scenario 1\nbreaths {breaths}\nrounds 1\nconfig 0 0\napp r PcapReader in.pcap\napp w PcapWriter out.pcap\nlink r.output -> w.input\nend\n"
+    )
+}
+
+/// A command, the files that are there, and which calls on files and on the sink fail.
+#[derive(Clone, Copy)]
+pub struct Case<'a> {
+    pub words: &'a [&'a str],
+    pub files: &'a [(&'a str, &'a [u8])],
+    pub files_fail: &'a [u64],
+    pub sink_fails: &'a [u64],
+}
+
+/// What is expected: the exit status, that of the answer which a print fault replaced, what the
+/// sink took, what `out.pcap` holds, the bytes of the report's one file with how much is left, and
+/// how many calls on files there were.
+#[derive(Clone, Copy)]
+pub struct Want<'a> {
+    pub number: u8,
+    pub replaced: Option<u8>,
+    pub text: &'a str,
+    pub written: Option<&'a [u8]>,
+    pub report: Option<(&'a [u8], u64)>,
+    pub calls: usize,
+}
+
+/// The words of a command.
+fn words_of(alloc: Global, texts: &[&str]) -> Result<Vec<String>, AllocError> {
+    let mut words = Vec::new(alloc);
+    for text in texts {
+        words.push(String::from_str(alloc, text)?)?;
+    }
+    Ok(words)
+}
+
+/// Files in memory of these names and contents.
+fn files_of(alloc: Global, case: &Case) -> Result<MemFiles, Fail> {
+    let mut held = Vec::new(alloc);
+    for (name, bytes) in case.files {
+        held.push((file_name(alloc, name)?, Vec::from_slice(alloc, bytes)?))?;
+    }
+    Ok(MemFiles::new(alloc, held, Vec::from_slice(alloc, case.files_fail)?))
+}
+
+/// A sink that takes seven bytes at a time.
+fn sink_of(alloc: Global, case: &Case) -> Result<MemSink, AllocError> {
+    MemSink::new(alloc, 7, 1000, Vec::from_slice(alloc, case.sink_fails)?)
+}
+
+/// Whether the report of a call is the one that is expected.
+fn is_reported(ended: &Ended, want: Option<(&[u8], u64)>) -> bool {
+    match (&ended.report, want) {
+        (None, None) => true,
+        (Some(report), Some((bytes, left))) => {
+            report.files.len() == 1
+                && report.files[0].bytes.as_slice() == bytes
+                && report.left == left
+        }
+        _ => false,
+    }
+}
+
+/// Runs a command, and compares how it ended with what is expected.
+pub fn expect<R: Threads + Sync + Abort + AllocGlobal>(
+    rt: &R,
+    case: &Case,
+    want: &Want,
+) -> Result<(), Fail> {
+    let alloc = rt.alloc();
+    let words = words_of(alloc, case.words)?;
+    let mut files = files_of(alloc, case)?;
+    let mut out = sink_of(alloc, case)?;
+    let ended = snabb_main(rt, alloc, &words, &mut files, &mut out, &NoGate);
+    assert_eq!(rt; out.taken(), want.text.as_bytes());
+    assert_eq!(rt; ended.status.number(), want.number);
+    let replaced = ended.replaced.as_ref().map(|status| status.number());
+    assert_eq!(rt; replaced, want.replaced);
+    assert!(rt; is_reported(&ended, want.report));
+    assert_eq!(rt; files.calls().len(), want.calls);
+    let output = file_name(alloc, "out.pcap")?;
+    assert!(rt; files.bytes(&output) == want.written);
+    Ok(())
+}
