@@ -29,9 +29,25 @@ impl Model for Scenario {
 
     ghost Value = { ScenarioForm };
 
-    ghost view = { λ s. record { settings = s.settings; lanes = s.lanes.items; journal = s.journal; placed = s.placed.items; stops = s.stops.items; captures = s.captures.items; outputs = s.outputs.items } };
+    ghost view = { λ s. record {
+      settings = s.settings;
+      lanes = s.lanes.items;
+      journal = s.journal;
+      placed = s.placed.items;
+      stops = s.stops.items;
+      captures = s.captures.items;
+      outputs = s.outputs.items;
+    } };
 
-    ghost invariant = { λ s. IsBounded (record { settings = s.settings; lanes = s.lanes.items; journal = s.journal; placed = s.placed.items; stops = s.stops.items; captures = s.captures.items; outputs = s.outputs.items }) × AreCounts s.placed.items s.counts.items };
+    ghost invariant = { λ s. IsBounded (record {
+      settings = s.settings;
+      lanes = s.lanes.items;
+      journal = s.journal;
+      placed = s.placed.items;
+      stops = s.stops.items;
+      captures = s.captures.items;
+      outputs = s.outputs.items;
+    }) × AreCounts s.placed.items s.counts.items };
 }
 
 impl Scenario {
