@@ -1,6 +1,6 @@
 use Rattle.std.proofs.Common.{◌≡◌, ◌+◌, ◌≤◌, length}
 use Rattle.sn_pcap.specs.Places.{payloads_at, IsPlace}
-use Rattle.sn_pcap.proofs.tests.count_of.Given as goal
+use Rattle.sn_tests.proofs.captures.count_of.Given as goal
 
 abbrev pub invariant-loop-found : goal.invariant-loop-found
 invariant-loop-found l = record {

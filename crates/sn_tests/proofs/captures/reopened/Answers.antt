@@ -3,7 +3,7 @@ use Rattle.std.specs.Prelude.{map}
 use Rattle.std.proofs.lemmas.List.{get_or-map, length-map, take_all}
 use Rattle.sn_pcap.specs.Grammar.{PcapText}
 use Rattle.sn_pcap.specs.Written.{written}
-use Rattle.sn_pcap.proofs.tests.reopened.Goals as goal
+use Rattle.sn_tests.proofs.captures.reopened.Goals as goal
 
 pub write_record-requires : goal.write_record-requires
 write_record-requires c =

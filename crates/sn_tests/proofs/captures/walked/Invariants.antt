@@ -1,6 +1,6 @@
 use Rattle.std.proofs.Common.{length}
 use Rattle.sn_pcap.specs.Places.{payloads_at, IsPlace}
-use Rattle.sn_pcap.proofs.tests.walked.Given as goal
+use Rattle.sn_tests.proofs.captures.walked.Given as goal
 
 abbrev pub invariant-loop-found : goal.invariant-loop-found
 invariant-loop-found l = IsPlace l.capture l.at
