@@ -10,7 +10,7 @@ pub enum Side {
 /// One atomic step of a worker, as far as it changes who owns a packet, a lane, a cell or a seat.
 ///
 /// Lanes, cells, seats and packets are named by their numbers, and a worker by the number of its seat.
-#[derive(Clone, Copy, Debug, PartialEq, Eq)]
+#[derive(Clone, Copy)]
 pub enum Event {
     /// A load, which changes nothing.
     Look,
