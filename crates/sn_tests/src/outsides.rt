@@ -149,16 +149,27 @@ fn real_files_are_read_to_their_limit_and_written_anew(rt: HostRuntime) -> Resul
     take_away(&rt, folder.as_str(), &file)
 }
 
+/// Makes a file that its owner alone may use.
+fn make_private(rt: &HostRuntime, file: &FileName) -> Result<(), Fail> {
+    fs::write(rt, file.as_str(), b"longer")?;
+    fs::set_permissions(rt, file.as_str(), Permissions::from_mode(0o600))?;
+    Ok(())
+}
+
+/// Who may use a file.
+fn mode_of(rt: &HostRuntime, file: &FileName) -> Result<u32, Fail> {
+    let mode = fs::metadata(rt, file.as_str())?.permissions().mode();
+    Ok(mode & 0o777)
+}
+
 #[test]
 fn a_file_that_is_replaced_keeps_its_mode(rt: HostRuntime) -> Result<(), Fail> {
     let folder = folder_for(&rt, "mode")?;
     let file = file_in(rt.alloc(), folder.as_str(), "file")?;
-    fs::write(&rt, file.as_str(), b"longer")?;
-    fs::set_permissions(&rt, file.as_str(), Permissions::from_mode(0o600))?;
+    make_private(&rt, &file)?;
     let written = RealFiles::new(&rt).write(&file, b"abc");
     assert_eq!(rt; written, Ok(()));
-    let mode = fs::metadata(&rt, file.as_str())?.permissions().mode();
-    assert_eq!(rt; mode & 0o777, 0o600);
+    assert_eq!(rt; mode_of(&rt, &file)?, 0o600);
     take_away(&rt, folder.as_str(), &file)
 }
 
