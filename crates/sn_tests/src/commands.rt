@@ -12,16 +12,28 @@ const HEADER: [u8; 24] = [
     0xd4, 0xc3, 0xb2, 0xa1, 2, 0, 4, 0, 0, 0, 0, 0, 0, 0, 0, 0, 0xff, 0xff, 0, 0, 1, 0, 0, 0,
 ];
 
+/// The most bytes of a record here: one more than those of the longest that is written.
+const LONGEST: u32 = 10_241;
+
+/// So many bytes, of which neighbours differ.
+fn payload(alloc: Global) -> Result<Vec<u8>, AllocError> {
+    let mut bytes = Vec::new(alloc);
+    for j in 0..LONGEST {
+        bytes.push((j % 251) as u8)?;
+    }
+    Ok(bytes)
+}
+
 /// A capture of records of these lengths.
 pub fn capture(alloc: Global, lengths: &[u32]) -> Result<Vec<u8>, AllocError> {
+    let longest = payload(alloc)?;
     let mut bytes = Vec::from_slice(alloc, &HEADER)?;
     for len in lengths {
         bytes.extend_from_slice(&[0; 8])?;
         bytes.extend_from_slice(&len.to_le_bytes())?;
         bytes.extend_from_slice(&len.to_le_bytes())?;
-        for j in 0..*len {
-            bytes.push((j % 251) as u8)?;
-        }
+        let record = longest.get(..*len as usize).unwrap_or(&longest);
+        bytes.extend_from_slice(record)?;
     }
     Ok(bytes)
 }
