@@ -1,5 +1,6 @@
 //! A command over files in memory, and what is expected of it.
 use crate::names::file_name;
+use sn_names::FileName;
 use sn_outside::{MemFiles, MemSink, NoGate};
 use sn_run::{Ended, snabb_main};
 use std::alloc::{AllocError, Global};
@@ -90,6 +91,14 @@ fn sink_of(alloc: Global, case: &Case) -> Result<MemSink, AllocError> {
     MemSink::new(alloc, 7, 1000, Vec::from_slice(alloc, case.sink_fails)?)
 }
 
+/// The exit status of the answer that a print fault replaced.
+fn replaced_number(ended: &Ended) -> Option<u8> {
+    match &ended.replaced {
+        Some(status) => Some(status.number()),
+        None => None,
+    }
+}
+
 /// Whether the report of a call is the one that is expected.
 fn is_reported(ended: &Ended, want: Option<(&[u8], u64)>) -> bool {
     match (&ended.report, want) {
@@ -103,24 +112,44 @@ fn is_reported(ended: &Ended, want: Option<(&[u8], u64)>) -> bool {
     }
 }
 
-/// Runs a command, and compares how it ended with what is expected.
+/// Runs a command over these files and this sink.
+fn call<R: Threads + Sync>(
+    rt: &R,
+    alloc: Global,
+    words: &[String],
+    files: &mut MemFiles,
+    out: &mut MemSink,
+) -> Ended {
+    snabb_main(rt, alloc, words, files, out, &NoGate)
+}
+
+/// Compares how a command ended with what is expected.
+fn expect_ended<R: Abort>(rt: &R, ended: &Ended, want: &Want) {
+    assert_eq!(rt; ended.status.number(), want.number);
+    assert_eq!(rt; replaced_number(ended), want.replaced);
+    assert!(rt; is_reported(ended, want.report));
+}
+
+/// Compares what files and sink tell with what is expected.
+fn expect_told<R: Abort>(rt: &R, output: &FileName, files: &MemFiles, out: &MemSink, want: &Want) {
+    assert_eq!(rt; out.taken(), want.text.as_bytes());
+    assert_eq!(rt; files.calls().len(), want.calls);
+    assert!(rt; files.bytes(output) == want.written);
+}
+
+/// Runs a command, and compares what comes of it with what is expected.
 pub fn expect<R: Threads + Sync + Abort + AllocGlobal>(
     rt: &R,
     case: &Case,
     want: &Want,
 ) -> Result<(), Fail> {
     let alloc = rt.alloc();
+    let output = file_name(alloc, "out.pcap")?;
     let words = words_of(alloc, case.words)?;
     let mut files = files_of(alloc, case)?;
     let mut out = sink_of(alloc, case)?;
-    let ended = snabb_main(rt, alloc, &words, &mut files, &mut out, &NoGate);
-    assert_eq!(rt; out.taken(), want.text.as_bytes());
-    assert_eq!(rt; ended.status.number(), want.number);
-    let replaced = ended.replaced.as_ref().map(|status| status.number());
-    assert_eq!(rt; replaced, want.replaced);
-    assert!(rt; is_reported(&ended, want.report));
-    assert_eq!(rt; files.calls().len(), want.calls);
-    let output = file_name(alloc, "out.pcap")?;
-    assert!(rt; files.bytes(&output) == want.written);
+    let ended = call(rt, alloc, &words, &mut files, &mut out);
+    expect_ended(rt, &ended, want);
+    expect_told(rt, &output, &files, &out, want);
     Ok(())
 }

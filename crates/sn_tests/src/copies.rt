@@ -183,16 +183,24 @@ fn run_of(alloc: Global, text: &[u8], bytes: Vec<u8>) -> Option<(Outcome, u64, V
     if text.len() > 1_048_576 {
         return None;
     }
-    let read = Scenario::parse(alloc, text).ok()?;
-    if !runs_now(alloc, text, &read).ok()? {
+    let Ok(read) = Scenario::parse(alloc, text) else {
+        return None;
+    };
+    let Ok(runs) = runs_now(alloc, text, &read) else {
+        return None;
+    };
+    let Ok(opened) = Capture::open(bytes) else {
+        return None;
+    };
+    let Ok(captures) = vec![in alloc; opened] else {
+        return None;
+    };
+    if !runs || captures.len() != read.captures().len() {
         return None;
     }
-    let opened = Capture::open(bytes).ok()?;
-    let captures = vec![in alloc; opened].ok()?;
-    if captures.len() != read.captures().len() {
+    let Ok((outcome, report)) = run_scenario(alloc, &read, &captures) else {
         return None;
-    }
-    let (outcome, report) = run_scenario(alloc, &read, &captures).ok()?;
+    };
     let mut files = report.files;
     let file = files.pop()?;
     Some((outcome, report.left, file.bytes))
