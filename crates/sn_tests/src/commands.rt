@@ -46,15 +46,6 @@ pub fn scenario(alloc: Global, breaths: u32) -> Result<String, AllocError> {
     )
 }
 
-/// A command, the files that are there, and which calls on files and on the sink fail.
-#[derive(Clone, Copy)]
-pub struct Case<'a> {
-    pub words: &'a [&'a str],
-    pub files: &'a [(&'a str, &'a [u8])],
-    pub files_fail: &'a [u64],
-    pub sink_fails: &'a [u64],
-}
-
 /// What is expected: the exit status, that of the answer which a print fault replaced, what the
 /// sink took, what `out.pcap` holds, the bytes of the report's one file with how much is left, and
 /// how many calls on files there were.
@@ -77,18 +68,34 @@ fn words_of(alloc: Global, texts: &[&str]) -> Result<Vec<String>, AllocError> {
     Ok(words)
 }
 
-/// Files in memory of these names and contents.
-fn files_of(alloc: Global, case: &Case) -> Result<MemFiles, Fail> {
+/// Files in memory: a scenario's under this name, and `in.pcap` where there is a capture. The calls
+/// of these numbers fail.
+pub fn files_of(
+    alloc: Global,
+    name: &str,
+    scenario: &[u8],
+    input: Option<&[u8]>,
+    failing: &[u64],
+) -> Result<MemFiles, Fail> {
     let mut held = Vec::new(alloc);
-    for (name, bytes) in case.files {
-        held.push((file_name(alloc, name)?, Vec::from_slice(alloc, bytes)?))?;
+    let text = Vec::from_slice(alloc, scenario)?;
+    held.push((file_name(alloc, name)?, text))?;
+    if let Some(bytes) = input {
+        let records = Vec::from_slice(alloc, bytes)?;
+        held.push((file_name(alloc, "in.pcap")?, records))?;
     }
-    Ok(MemFiles::new(alloc, held, Vec::from_slice(alloc, case.files_fail)?))
+    let failing = Vec::from_slice(alloc, failing)?;
+    Ok(MemFiles::new(alloc, held, failing))
 }
 
-/// A sink that takes seven bytes at a time.
-fn sink_of(alloc: Global, case: &Case) -> Result<MemSink, AllocError> {
-    MemSink::new(alloc, 7, 1000, Vec::from_slice(alloc, case.sink_fails)?)
+/// No files.
+pub fn no_files(alloc: Global) -> MemFiles {
+    MemFiles::new(alloc, Vec::new(alloc), Vec::new(alloc))
+}
+
+/// A sink that takes seven bytes at a time. The calls of these numbers fail.
+fn sink_of(alloc: Global, failing: &[u64]) -> Result<MemSink, AllocError> {
+    MemSink::new(alloc, 7, 1000, Vec::from_slice(alloc, failing)?)
 }
 
 /// The exit status of the answer that a print fault replaced.
@@ -137,17 +144,20 @@ fn expect_told<R: Abort>(rt: &R, output: &FileName, files: &MemFiles, out: &MemS
     assert!(rt; files.bytes(output) == want.written);
 }
 
-/// Runs a command, and compares what comes of it with what is expected.
+/// Runs a command over files, and a sink whose calls of these numbers fail, and compares what comes
+/// of it with what is expected.
 pub fn expect<R: Threads + Sync + Abort + AllocGlobal>(
     rt: &R,
-    case: &Case,
+    words: &[&str],
+    files: MemFiles,
+    sink_fails: &[u64],
     want: &Want,
 ) -> Result<(), Fail> {
     let alloc = rt.alloc();
     let output = file_name(alloc, "out.pcap")?;
-    let words = words_of(alloc, case.words)?;
-    let mut files = files_of(alloc, case)?;
-    let mut out = sink_of(alloc, case)?;
+    let words = words_of(alloc, words)?;
+    let mut out = sink_of(alloc, sink_fails)?;
+    let mut files = files;
     let ended = call(rt, alloc, &words, &mut files, &mut out);
     expect_ended(rt, &ended, want);
     expect_told(rt, &output, &files, &out, want);

@@ -1,5 +1,5 @@
 //! Scenarios that run: the records that are copied, and those that are left.
-use crate::commands::{Case, Want, capture, expect, scenario};
+use crate::commands::{Want, capture, expect, files_of, scenario};
 use sn_pcap::Capture;
 use sn_run::{Outcome, run_scenario, runs_now};
 use sn_scenario::Scenario;
@@ -17,12 +17,7 @@ fn expect_copy<R: Threads + Sync + Abort + AllocGlobal>(
     left: u64,
     text: &str,
 ) -> Result<(), Fail> {
-    let case = Case {
-        words: &["run", "s"],
-        files: &[("s", scenario.as_bytes()), ("in.pcap", input)],
-        files_fail: &[],
-        sink_fails: &[],
-    };
+    let files = files_of(rt.alloc(), "s", scenario.as_bytes(), Some(input), &[])?;
     let want = Want {
         number: if left == 0 { 0 } else { 4 },
         replaced: None,
@@ -31,7 +26,7 @@ fn expect_copy<R: Threads + Sync + Abort + AllocGlobal>(
         report: Some((output, left)),
         calls: 3,
     };
-    expect(rt, &case, &want)
+    expect(rt, &["run", "s"], files, &[], &want)
 }
 
 /// Copies records of these lengths in so many breaths, and expects these to be in the file.
@@ -112,25 +107,29 @@ fn spacing_is_free(rt: HostRuntime) -> Result<(), Fail> {
     expect_copy(&rt, SPACED, &records, &records, 0, "status drained\n")
 }
 
-#[test]
-fn sink_fails_first_and_the_file_is_written(rt: HostRuntime) -> Result<(), Fail> {
-    let words = scenario(rt.alloc(), 10)?;
-    let records = capture(rt.alloc(), &[60])?;
-    let case = Case {
-        words: &["run", "s"],
-        files: &[("s", words.as_str().as_bytes()), ("in.pcap", &records)],
-        files_fail: &[],
-        sink_fails: &[1],
-    };
+/// Runs a scenario over one capture that is copied whole, with a sink that fails first.
+fn expect_unprinted<R: Threads + Sync + Abort + AllocGlobal>(
+    rt: &R,
+    scenario: &str,
+    records: &[u8],
+) -> Result<(), Fail> {
+    let files = files_of(rt.alloc(), "s", scenario.as_bytes(), Some(records), &[])?;
     let want = Want {
         number: 2,
         replaced: Some(0),
         text: "",
-        written: Some(&records),
-        report: Some((&records, 0)),
+        written: Some(records),
+        report: Some((records, 0)),
         calls: 3,
     };
-    expect(&rt, &case, &want)
+    expect(rt, &["run", "s"], files, &[1], &want)
+}
+
+#[test]
+fn sink_fails_first_and_the_file_is_written(rt: HostRuntime) -> Result<(), Fail> {
+    let words = scenario(rt.alloc(), 10)?;
+    let records = capture(rt.alloc(), &[60])?;
+    expect_unprinted(&rt, words.as_str(), &records)
 }
 
 /// A scenario of 1,048,576 bytes: one that copies, and a long remark.
@@ -149,32 +148,33 @@ fn longest_capture(alloc: Global) -> Result<Vec<u8>, AllocError> {
     capture(alloc, &lengths)
 }
 
-#[test]
-fn the_longest_name_scenario_and_capture_run(rt: HostRuntime) -> Result<(), Fail> {
-    let alloc = rt.alloc();
-    let name = "s".repeat(alloc, 4096)?;
-    let text = longest_scenario(alloc)?;
-    let records = longest_capture(alloc)?;
-    assert_eq!(rt; text.len(), 1_048_576);
-    assert_eq!(rt; records.len(), 16_777_216);
-    let case = Case {
-        words: &["run", name.as_str()],
-        files: &[
-            (name.as_str(), text.as_str().as_bytes()),
-            ("in.pcap", &records),
-        ],
-        files_fail: &[],
-        sink_fails: &[],
-    };
+/// Runs the scenario in a file of this name over one capture, which is copied whole.
+fn expect_whole<R: Threads + Sync + Abort + AllocGlobal>(
+    rt: &R,
+    name: &str,
+    scenario: &str,
+    records: &[u8],
+) -> Result<(), Fail> {
+    let files = files_of(rt.alloc(), name, scenario.as_bytes(), Some(records), &[])?;
     let want = Want {
         number: 0,
         replaced: None,
         text: "status drained\n",
-        written: Some(&records),
-        report: Some((&records, 0)),
+        written: Some(records),
+        report: Some((records, 0)),
         calls: 3,
     };
-    expect(&rt, &case, &want)
+    expect(rt, &["run", name], files, &[], &want)
+}
+
+#[test]
+fn the_longest_name_scenario_and_capture_run(rt: HostRuntime) -> Result<(), Fail> {
+    let name = "s".repeat(rt.alloc(), 4096)?;
+    let text = longest_scenario(rt.alloc())?;
+    let records = longest_capture(rt.alloc())?;
+    assert_eq!(rt; text.len(), 1_048_576);
+    assert_eq!(rt; records.len(), 16_777_216);
+    expect_whole(&rt, name.as_str(), text.as_str(), &records)
 }
 
 /// How a scenario of two breaths runs over these bytes: its outcome, how much is left, and the file

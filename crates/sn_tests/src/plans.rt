@@ -1,5 +1,5 @@
 //! Commands that read a scenario alone: whether it is one, and what a worker does.
-use crate::commands::{Case, Want, expect};
+use crate::commands::{Want, expect, files_of};
 use std::process::Abort;
 use std::test::Fail;
 use std::thread::Threads;
@@ -12,12 +12,7 @@ fn expect_text<R: Threads + Sync + Abort + AllocGlobal>(
     text: &str,
     number: u8,
 ) -> Result<(), Fail> {
-    let case = Case {
-        words,
-        files: &[("s", scenario.as_bytes())],
-        files_fail: &[],
-        sink_fails: &[],
-    };
+    let files = files_of(rt.alloc(), "s", scenario.as_bytes(), None, &[])?;
     let want = Want {
         number,
         replaced: None,
@@ -26,7 +21,7 @@ fn expect_text<R: Threads + Sync + Abort + AllocGlobal>(
         report: None,
         calls: 1,
     };
-    expect(rt, &case, &want)
+    expect(rt, words, files, &[], &want)
 }
 
 /// Two configurations of a worker, of which the second has another app.
@@ -67,12 +62,7 @@ fn arguments_are_printed(rt: HostRuntime) -> Result<(), Fail> {
 
 #[test]
 fn sink_fails_while_actions_are_printed(rt: HostRuntime) -> Result<(), Fail> {
-    let case = Case {
-        words: &["actions", "s", "0"],
-        files: &[("s", REPLACED.as_bytes())],
-        files_fail: &[],
-        sink_fails: &[3],
-    };
+    let files = files_of(rt.alloc(), "s", REPLACED.as_bytes(), None, &[])?;
     let want = Want {
         number: 2,
         replaced: Some(0),
@@ -81,7 +71,7 @@ fn sink_fails_while_actions_are_printed(rt: HostRuntime) -> Result<(), Fail> {
         report: None,
         calls: 1,
     };
-    expect(&rt, &case, &want)
+    expect(&rt, &["actions", "s", "0"], files, &[3], &want)
 }
 
 #[test]
