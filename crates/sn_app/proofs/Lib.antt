@@ -1,0 +1,6 @@
+pub mod Readings
+mod Places
+mod Slots
+mod Moving
+mod Sending
+pub mod Running

@@ -1,0 +1,13 @@
+pub mod Counts
+pub mod Desk
+pub mod Reader
+pub mod Words
+pub mod Answers
+pub mod Gates
+pub mod Rows
+pub mod World
+pub mod Runs
+pub mod Calls
+pub mod Ports
+pub mod Apps
+pub mod Starts

@@ -1,0 +1,27 @@
+//! What every app runs over: a context with packets, links, interlinks, files and counters, and what a call of it means.
+//!
+//! - `ports`: the ports of an app, with their links
+//! - `app`: what every app is
+//! - `verbs`: send and take
+//! - `halt`: why a call didn't go on
+//! - `counters`: the counts of apps and links
+//! - `ctx`: the context
+//! - `end_state`: how an end of an interlink stands
+#![tactic(auto)]
+
+mod app;
+mod counters;
+mod ctx;
+mod end_state;
+mod halt;
+mod ports;
+mod verbs;
+
+pub use app::App;
+pub use counters::{AppCounts, Counter, Counters};
+pub use ctx::Ctx;
+pub use end_state::EndState;
+pub use halt::Halt;
+pub use ports::Ports;
+pub use sn_core::Side;
+pub use verbs::{send, take};
