@@ -1,6 +1,9 @@
 pub mod Readings
 mod Places
 mod Slots
-mod Moving
+pub mod Moving
 mod Sending
 pub mod Running
+pub mod Calling
+pub mod Looping
+pub mod Making

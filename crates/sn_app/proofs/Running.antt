@@ -1,5 +1,5 @@
 -- How runs go together, and how loops continue.
-use Rattle.std.proofs.Common.{◌≡◌, ℕ, List, Result, Ok, Err, refl, subst}
+use Rattle.std.proofs.Common.{◌≡◌, ℕ, List, Result, Ok, Err, refl, sym, subst}
 use Rattle.sn_app.specs.Answers.{Answers}
 use Rattle.sn_app.specs.Desk.{Desk}
 use Rattle.sn_app.specs.Reader.{Meaning, pure, ◌>>=◌, look}
@@ -73,3 +73,11 @@ continues_fail k {later = later} {h = h} after c f = c.ends later after (Err h) 
 pub continues_done : {R : Type 0} {left whole : Meaning R} {start now later : World} {before mine after : ℕ → ℕ} {r : Result R Halt}
     → Continues left whole start now before mine → Runs left now later mine after r → Runs whole start later before after r
 continues_done {later = later} {after = after} {r = r} c f = c.ends later after r f
+
+-- a step behind that no desk shows
+pub runs_silent_after : {R : Type 0} {m : Meaning R} {w v z : World} {before mid after : ℕ → ℕ} {x : R}
+    → Runs m w v before mid (Ok x) → desk_of z ≡ desk_of v → Moves v z mid after → Runs m w z before after (Ok x)
+runs_silent_after {m = m} {w} {x = x} f same g = record {
+  answers = subst (λ d. Answers m (desk_of w) d (Ok x)) (sym same) f.answers;
+  moves = λ y e. moves_then (f.moves x refl) g;
+}

@@ -288,11 +288,7 @@ module _ (slots : List (Option Line)) (key : ℕ) (line changed : Line) (there :
   ]
 
   pub keeps_rows : KeepsRows slots (set slots key (Some changed))
-  unfolding rows_of
-  keeps_rows = record {
-    rows = λ ports has. ap (λ f. map f ports) (fun_ext (λ port. ap (λ r. (port.0, r)) (row_kept port.1)));
-    held = λ ports has. record { held = λ i within. held_kept (key_at ports i) (has.held i within) };
-  }
+  keeps_rows = record { rows = row_kept; held = held_kept }
 
 -- what a port leads to is there
 pub line_there : (slots : List (Option Line)) (ports : List (List ℕ × ℕ)) (i : ℕ) → HasLinks slots ports → i < length ports

@@ -11,3 +11,4 @@ pub mod Calls
 pub mod Ports
 pub mod Apps
 pub mod Starts
+pub mod Loops

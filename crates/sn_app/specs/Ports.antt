@@ -83,5 +83,5 @@ pub record SamePorts (old new : Ports) : Type 0 where
 
 -- the same links, each still at its row
 pub record KeepsRows (old new : List (Option Line)) : Type 0 where
-  pub rows : (ports : List (List ℕ × ℕ)) → HasLinks old ports → rows_of new ports ≡ rows_of old ports
-  pub held : (ports : List (List ℕ × ℕ)) → HasLinks old ports → HasLinks new ports
+  pub rows : (key : ℕ) → (line_at new key).row ≡ (line_at old key).row
+  pub held : (key : ℕ) → IsSome (slice_index_or old key None) → IsSome (slice_index_or new key None)
