@@ -7,3 +7,6 @@ pub mod Running
 pub mod Calling
 pub mod Looping
 pub mod Making
+pub mod Handling
+pub mod Naming
+pub mod AtPorts

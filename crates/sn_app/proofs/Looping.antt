@@ -1,11 +1,12 @@
 -- Loops over a context: a turn that goes on, one that stops, one that halts, and the end.
-use Rattle.std.proofs.Common.{◌≡◌, ℕ, zero, suc, ◌+◌, ◌-◌, ◌<◌, ◌≤◌, Bool, true, false, if◌then◌else◌, List, [], ◌∷◌, length, drop, get_or, Option, Result, Ok, Err, refl, sym, ap, subst, ◌∙◌, arith, drop-cons, add-one}
+use Rattle.std.proofs.Common.{◌≡◌, ℕ, zero, suc, ◌+◌, ◌-◌, ◌<◌, ◌≤◌, Bool, true, false, if◌then◌else◌, List, [], ◌∷◌, map, length, drop, get_or, Option, Result, Ok, Err, refl, sym, ap, subst, ◌∙◌, arith, drop-cons, add-one}
 use Rattle.sn_app.specs.Loops.{Did, Goes, IsReady}
+use mathlib.Core.Path.{fun_ext}
 use Rattle.std.proofs.lemmas.List.{length-map}
 use Rattle.sn_link.specs.Link.{Line}
 use Rattle.sn_app.specs.Answers.{Stays}
 use Rattle.sn_app.specs.Desk.{Tray}
-use Rattle.sn_app.specs.Ports.{HasInputs, HasLinks, HasOutputs, KeepsRows, SamePorts, in_row, ins_of, key_at, line_at, out_row, outs_of, rows_of, slots_of}
+use Rattle.sn_app.specs.Ports.{HasInputs, HasLinks, HasOutputs, KeepsRows, SamePorts, in_ports, in_row, ins_of, key_at, line_at, out_ports, out_row, outs_of, rows_of, slots_of}
 use Rattle.sn_app.specs.Reader.{Meaning, pure, ◌>>=◌, times, on_each, stepping}
 use Rattle.sn_app.specs.Runs.{Moves, Runs, Continues}
 use Rattle.sn_app.specs.World.{IsSound, Used, World, desk_of, nowhere, world}
@@ -307,3 +308,26 @@ row_at_place slots (port ∷ ports) (suc i) within = row_at_place slots ports i 
 pub length_rows : (slots : List (Option Line)) (ports : List (List ℕ × ℕ)) → length (rows_of slots ports) ≡ length ports
 unfolding rows_of
 length_rows slots ports = length-map ports (λ port. (port.0, (line_at slots port.1).row))
+
+-- what is done at an output, or at an input, is what is done at the port that a desk has for it
+pub at_output : {from to : Ports} (m : ℕ → Meaning Bool) (o : ℕ) → o < length (outs_of from) → SamePorts from to → KeepsRows (slots_of from) (slots_of to)
+    → m (out_row to o) ≡ m (get_or (out_ports from) o ([], 0)).1
+at_output {from} {to} m o within same rows = ap m (out_row_kept same rows o ∙ sym (row_at_place (slots_of from) (outs_of from) o within))
+
+pub at_input : {from to : Ports} (m : ℕ → Meaning Bool) (i : ℕ) → i < length (ins_of from) → SamePorts from to → KeepsRows (slots_of from) (slots_of to)
+    → m (in_row to i) ≡ m (get_or (in_ports from) i ([], 0)).1
+at_input {from} {to} m i within same rows = ap m (in_row_kept same rows i ∙ sym (row_at_place (slots_of from) (ins_of from) i within))
+
+-- as many ports as outputs, and as inputs
+pub outputs_count : (ports : Ports) → length (out_ports ports) ≡ length (outs_of ports)
+outputs_count ports = length_rows (slots_of ports) (outs_of ports)
+
+pub inputs_count : (ports : Ports) → length (in_ports ports) ≡ length (ins_of ports)
+inputs_count ports = length_rows (slots_of ports) (ins_of ports)
+
+-- and a desk has the same outputs
+pub out_ports_kept : {from to : Ports} → SamePorts from to → KeepsRows (slots_of from) (slots_of to) → out_ports to ≡ out_ports from
+unfolding rows_of
+out_ports_kept {from} {to} same rows =
+    ap (λ ports. rows_of (slots_of to) ports) same.outs
+    ∙ ap (λ f. map f (outs_of from)) (fun_ext (λ (port : List ℕ × ℕ). ap (λ r. (port.0, r)) (rows.rows port.1)))

@@ -1,10 +1,13 @@
 -- A packet is made: it is allocated and written, and then sent and counted, or freed and counted.
-use Rattle.std.proofs.Common.{◌≡◌, ℕ, ◌+◌, List, [], ◌∷◌, Bool, true, false, Option, Some, None, IsSome, IfSome, Result, Ok, Err, unwrap_or, refl, sym, ap, subst, ◌∙◌, arith}
+use Rattle.std.proofs.Common.{◌≡◌, ℕ, ◌+◌, List, [], ◌∷◌, Bool, true, false, Option, Some, None, IsSome, IfSome, Result, Ok, Err, unwrap_or, inl, inr, refl, sym, ap, subst, ◌∙◌, arith}
 use Rattle.sn_link.specs.Link.{Line}
-use Rattle.sn_packet.specs.Hold.{among}
+use mathlib.Core.Path.{fun_ext}
+use Rattle.std.proofs.lemmas.Bool.{cases_eq}
+use Rattle.sn_packet.specs.Hold.{among, put_at}
 use Rattle.sn_packet.specs.Packet.{PacketState, no_packet, with_bytes}
+use Rattle.sn_packet.proofs.Puts.{put_at_other, put_at_same}
 use Rattle.sn_app.specs.Answers.{OnTray}
-use Rattle.sn_app.specs.Apps.{AppState, drops_counted, runs_dry, sends_counted, staying}
+use Rattle.sn_app.specs.Apps.{AppState, frees_counted, runs_dry, sends_counted, staying}
 use Rattle.sn_app.specs.Calls.{IsFresh, named, rewritten_at}
 use Rattle.sn_app.specs.Desk.{Tray, counted_on, freed, name_of}
 use Rattle.sn_app.specs.Reader.{Meaning, pure}
@@ -13,10 +16,10 @@ use Rattle.sn_app.specs.Runs.{Runs}
 use Rattle.sn_app.specs.World.{Used, World, world, packet_at, IsSound, nowhere, ◌⊕◌}
 use Rattle.sn_app.specs.declared.counters.Counter.{Counter}
 use Rattle.sn_app.specs.declared.halt.Halt.{Halt}
-use Rattle.sn_app.specs.declared.counters.Counter.TheVariants.{Packets, Dropped, Dry}
+use Rattle.sn_app.specs.declared.counters.Counter.TheVariants.{Packets, Dry}
 use Rattle.sn_app.proofs.Calling.{desk_written_at, gave, moves_written_at, runs_allocate_some, runs_count, written_at}
 use Rattle.sn_app.proofs.Moving.{sound_as, sound_moved}
-use Rattle.sn_app.proofs.Running.{runs_as, runs_bind, runs_fail, runs_pure, runs_silent_after}
+use Rattle.sn_app.proofs.Running.{runs_as, runs_bind, runs_fail, runs_pure, runs_silent, runs_silent_after}
 
 module _ {t s z : Tray} (u v w : Used) (slots : List (Option Line)) (h : IsSound (world t u slots) nowhere)
     (o : Option ℕ) (place : ℕ) (bytes : List ℕ) (some : o ≡ Some place) (reads : OnTray row_allocate t s (named v (Ok o)))
@@ -59,14 +62,14 @@ runs_sends_counted {s = s} u v slots {after = after} app out packet run tray use
     (runs_bind (λ done. counts app Packets 1) run (runs_count app Packets 1 u v slots after tray used))
     (runs_pure true (world s v slots) after)
 
--- freed, and counted as dropped
-pub runs_drops_counted : {now : World} {t s : Tray} (u v : Used) (slots : List (Option Line)) {before after : ℕ → ℕ} (app : ℕ) (packet : PacketState)
-    → Runs (frees (name_of packet)) now (world t u slots) before after (Ok tt) → s ≡ counted_on app Dropped 1 t → v ≡ u
-    → Runs (drops_counted app packet) now (world s v slots) before after (Ok true)
-unfolding drops_counted
-runs_drops_counted {s = s} u v slots {after = after} app packet run tray used =
+-- freed, and counted
+pub runs_frees_counted : {now : World} {t s : Tray} (u v : Used) (slots : List (Option Line)) {before after : ℕ → ℕ} (app : ℕ) (counter : Counter)
+    (packet : PacketState) → Runs (frees (name_of packet)) now (world t u slots) before after (Ok tt) → s ≡ counted_on app counter 1 t → v ≡ u
+    → Runs (frees_counted app counter packet) now (world s v slots) before after (Ok true)
+unfolding frees_counted
+runs_frees_counted {s = s} u v slots {after = after} app counter packet run tray used =
     runs_bind (λ done. pure true)
-    (runs_bind (λ done. counts app Dropped 1) run (runs_count app Dropped 1 u v slots after tray used))
+    (runs_bind (λ done. counts app counter 1) run (runs_count app counter 1 u v slots after tray used))
     (runs_pure true (world s v slots) after)
 
 -- the call ends for want of a free packet
@@ -86,3 +89,27 @@ pub runs_staying_halt : {w v : World} {before mid : ℕ → ℕ} {m : Meaning Bo
     → Runs (staying s m) w v before after (Err h)
 unfolding staying
 runs_staying_halt s after run = runs_fail (λ done. pure s) after run
+
+-- a packet in hand is written, and then something is done with it
+module _ {t s : Tray} (u v : Used) (slots : List (Option Line)) (place : ℕ) (bytes : List ℕ) (tray : s ≡ t) (used : v ≡ rewritten_at place bytes u) where
+  pub rewritten_packet : packet_at v place ≡ with_bytes bytes (packet_at u place)
+  rewritten_packet =
+      ap (λ (slot : Option PacketState). unwrap_or slot no_packet) (written_at {t = t} {s = s} u v slots place (with_bytes bytes (packet_at u place)) tray used)
+
+  pub sound_rewritten : IsSound (world t u slots) (among (place ∷ [])) → IsSound (world s v slots) (among (place ∷ []))
+  sound_rewritten h = sound_moved (moves_written_at u v slots place (with_bytes bytes (packet_at u place)) tray used) h
+
+  pub runs_rewritten : {R : Type 0} {m : Meaning R} {later : World} {after : ℕ → ℕ} {r : Result R Halt} → IsSound (world t u slots) (among (place ∷ []))
+      → Runs m (world s v slots) later (among (place ∷ [])) after r → Runs m (world t u slots) later (among (place ∷ [])) after r
+  runs_rewritten h run =
+      runs_silent (desk_written_at u v slots place (with_bytes bytes (packet_at u place)) tray used h)
+      (moves_written_at u v slots place (with_bytes bytes (packet_at u place)) tray used) run
+
+-- the packet at a place, written as it was, leaves all as it was
+pub put_as_is : (place : ℕ) (u : Used) (packet : PacketState) → u place ≡ Some packet → put_at place (Some packet) u ≡ u
+put_as_is place u packet at = fun_ext (λ q. elim (cases_eq q place) [
+  | inl same ↦
+      let P : ℕ → Type 0 = λ p. put_at place (Some packet) u p ≡ u p in
+      subst P (sym same) (put_at_same place (Some packet) u ∙ sym at)
+  | inr differs ↦ put_at_other place (Some packet) u q differs
+])

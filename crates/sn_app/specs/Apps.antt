@@ -16,6 +16,7 @@ use Rattle.sn_app.specs.Gates.{working}
 use Rattle.sn_app.specs.Ports.{Port}
 use Rattle.sn_app.specs.Reader.{Meaning, pure, ◌>>=◌, look, times, on_each, stepping}
 use Rattle.sn_app.specs.Rows.{◌>>◌, packet_of, row_allocate, row_attach, row_detach, row_look, row_room, row_take, row_put, row_file_start, row_file_append, counts, frees, sends, takes}
+use Rattle.sn_app.specs.declared.counters.Counter.{Counter}
 use Rattle.sn_app.specs.declared.counters.Counter.TheVariants.{Packets, Dropped, Oversize, Dry}
 
 -- An app by its class: its row among the apps, and what else it has. A sample has its n and how many packets it has seen, a
@@ -59,8 +60,11 @@ room_on row d = most_queued - readable row d
 unfoldable pub sends_counted : ℕ → ℕ → PacketState → Meaning Bool
 sends_counted app out packet = sends out packet >> counts app Packets 1 >> pure true
 
-unfoldable pub drops_counted : ℕ → PacketState → Meaning Bool
-drops_counted app packet = frees (name_of packet) >> counts app Dropped 1 >> pure true
+unfoldable pub frees_counted : ℕ → Counter → PacketState → Meaning Bool
+frees_counted app counter packet = frees (name_of packet) >> counts app counter 1 >> pure true
+
+abbrev pub drops_counted : ℕ → PacketState → Meaning Bool
+drops_counted app packet = frees_counted app Dropped packet
 
 -- the call ends for want of a free packet
 unfoldable pub runs_dry : ℕ → Meaning Bool
@@ -83,42 +87,36 @@ source_with app size out (Some name) = sends_counted app out (packet_of name.0 n
 unfoldable pub source_one : ℕ → ℕ → ℕ → Meaning Bool
 source_one app size out = row_allocate >>= source_with app size out
 
-unfoldable pub source_output : ℕ → ℕ → Port → Meaning Bool
-source_output app size port = times most_pulled (source_one app size port.1)
+unfoldable pub source_burst : ℕ → ℕ → ℕ → Meaning Bool
+source_burst app size out = times most_pulled (source_one app size out)
 
 unfoldable pub source_pull : ℕ → ℕ → List Port → Meaning Bool
-source_pull app size outs = on_each outs (source_output app size)
+source_pull app size outs = on_each outs (λ port. source_burst app size port.1)
 
 -- SINK: takes and frees all of every input
 
-unfoldable pub sink_packet : ℕ → PacketState → Meaning Bool
-sink_packet app packet = frees (name_of packet) >> counts app Packets 1 >> pure true
+abbrev pub sink_packet : ℕ → PacketState → Meaning Bool
+sink_packet app packet = frees_counted app Packets packet
 
-unfoldable pub sink_one : ℕ → ℕ → Meaning Bool
-sink_one app input = next_of input (sink_packet app)
-
-unfoldable pub sink_input : ℕ → Port → Meaning Bool
-sink_input app port = look (λ d. times (readable port.1 d) (sink_one app port.1))
+unfoldable pub sink_all : ℕ → ℕ → Meaning Bool
+sink_all app input = look (λ d. times (readable input d) (next_of input (sink_packet app)))
 
 unfoldable pub sink_push : ℕ → List Port → Meaning Bool
-sink_push app ins = on_each ins (sink_input app)
+sink_push app ins = on_each ins (λ port. sink_all app port.1)
 
 -- JOIN and SPLIT: from each input to each output as many as are readable there and find room here, both read once
 
-unfoldable pub move_one : ℕ → ℕ → ℕ → Meaning Bool
-move_one app input out = next_of input (sends_counted app out)
-
 unfoldable pub move_some : ℕ → ℕ → ℕ → Meaning Bool
-move_some app input out = look (λ d. times (min (readable input d) (room_on out d)) (move_one app input out))
+move_some app input out = look (λ d. times (min (readable input d) (room_on out d)) (next_of input (sends_counted app out)))
 
 unfoldable pub join_push : ℕ → List Port → ℕ → Meaning Bool
 join_push app ins out = on_each ins (λ port. move_some app port.1 out)
 
-unfoldable pub split_input : ℕ → List Port → Port → Meaning Bool
-split_input app outs input = on_each outs (λ out. move_some app input.1 out.1)
+unfoldable pub split_input : ℕ → List Port → ℕ → Meaning Bool
+split_input app outs input = on_each outs (λ out. move_some app input out.1)
 
 unfoldable pub split_push : ℕ → List Port → List Port → Meaning Bool
-split_push app ins outs = on_each ins (split_input app outs)
+split_push app ins outs = on_each ins (λ port. split_input app outs port.1)
 
 -- TEE: a copy of each packet to every output, as long as all outputs have room
 
@@ -263,7 +261,7 @@ reader_pull app rest out = stepping most_pulled (read_one app out) rest >>= (λ 
 -- PCAP WRITER: appends and frees each
 
 unfoldable pub write_counted : ℕ → PacketState → Bool → Meaning Bool
-write_counted app packet true = frees (name_of packet) >> counts app Packets 1 >> pure true
+write_counted app packet true = frees_counted app Packets packet
 write_counted app packet false = drops_counted app packet
 
 unfoldable pub write_packet : ℕ → ℕ → PacketState → Meaning Bool

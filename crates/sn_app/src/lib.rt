@@ -2,6 +2,8 @@
 //!
 //! - `ports`: the ports of an app, with their links
 //! - `app`: what every app is
+//! - `handler`: what an app does with each packet of an input
+//! - `linked`: named ports, where they are linked
 //! - `verbs`: send and take
 //! - `halt`: why a call didn't go on
 //! - `counters`: the counts of apps and links
@@ -14,6 +16,8 @@ mod counters;
 mod ctx;
 mod end_state;
 mod halt;
+mod handler;
+mod linked;
 mod ports;
 mod verbs;
 
@@ -22,6 +26,8 @@ pub use counters::{AppCounts, Counter, Counters};
 pub use ctx::Ctx;
 pub use end_state::EndState;
 pub use halt::Halt;
+pub use linked::{linked_input, linked_out, linked_output};
+pub use handler::{Handler, handle_next, handle_some};
 pub use ports::Ports;
 pub use sn_core::Side;
 pub use verbs::{send, take};

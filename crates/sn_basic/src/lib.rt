@@ -1,8 +1,25 @@
 //! The basic apps: those that need no file and no interlink.
 //!
 //! - `source`: makes packets of zeros
+//! - `sink`: takes all and frees it
+//! - `truncate`: cuts packets to a length
+//! - `byte_filter`: passes the packets with a byte at a place
+//! - `moving`: as many packets as find room go from an input to an output
+//! - `join`: from every input to one output
+//! - `split`: from every input to every output in turn
 #![tactic(auto)]
 
+mod byte_filter;
+mod join;
+mod moving;
+mod sink;
 mod source;
+mod split;
+mod truncate;
 
-
+pub use byte_filter::ByteFilter;
+pub use join::Join;
+pub use sink::Sink;
+pub use source::Source;
+pub use split::Split;
+pub use truncate::Truncate;

@@ -1,13 +1,12 @@
 //! The class Source: makes packets of zeros.
 ghost use Rattle.std.specs.Prelude.{◌≡◌, ◌<◌, ◌≤◌, length, IfOk, refl};
-ghost use Rattle.sn_app.specs.Apps.{number_or, source, source_one, source_pull, usual_size};
+ghost use Rattle.sn_app.specs.Apps.{number_or, source, source_burst, source_one, source_pull, usual_size};
 ghost use Rattle.sn_app.specs.Loops.{Did, IsReady};
 ghost use Rattle.sn_app.specs.Ports.{out_ports, out_row, outs_of};
 ghost use Rattle.sn_basic.specs.Counts.{HasRow, HasRow-stays};
 ghost use Rattle.sn_config.specs.ArgText.{IsArgOf};
 ghost use Rattle.sn_names.specs.declared.class.Class.{Class};
 ghost use Rattle.sn_packet.specs.Packet.{most_bytes};
-ghost use Rattle.sn_app.specs.Reader.{times};
 
 use sn_app::{App, Counter, Ctx, Halt, Ports, send};
 use sn_names::{Arg, Class};
@@ -42,7 +41,7 @@ fn send_burst<C: Ctx>(row: u32, size: u32, ctx: &mut C, ports: &mut Ports<'_>, o
     requires ready { IsReady row (C.tray ctx.old) (C.used ctx.old) ports.old }
     requires size { size ≤ most_bytes }
     requires o { o < length (outs_of ports.old) }
-    ensures did { Did (times 102 (source_one row size (out_row ports.old o))) (C.tray ctx.old) (C.tray ctx.new) (C.used ctx.old) (C.used ctx.new)
+    ensures did { Did (source_burst row size (out_row ports.old o)) (C.tray ctx.old) (C.tray ctx.new) (C.used ctx.old) (C.used ctx.new)
         ports.old ports.new result }
     ensures lent { C.lender ctx.new ≡ C.lender ctx.old }
 {

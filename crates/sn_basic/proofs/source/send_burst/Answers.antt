@@ -1,5 +1,5 @@
 use Rattle.std.proofs.Common.{◌≡◌, Ok, Err, ap, refl, ◌∙◌, rules, arith}
-use Rattle.sn_app.specs.Apps.{source_one}
+use Rattle.sn_app.specs.Apps.{source_burst, source_one}
 use Rattle.sn_app.specs.Loops.{Did}
 use Rattle.sn_app.specs.Ports.{out_row, slots_of}
 use Rattle.sn_app.specs.Reader.{times}
@@ -8,6 +8,7 @@ use Rattle.sn_app.proofs.Looping.{did_as, did_gave, goes_start, out_row_kept, ou
 use Rattle.sn_basic.proofs.source.send_burst.Goals as goal
 
 pub loop-turn-init : goal.loop-turn-init
+unfolding source_burst
 loop-turn-init g c =
     let once = source_one c.args.row c.args.size (out_row c.args.ports.now c.args.o) in
     record {

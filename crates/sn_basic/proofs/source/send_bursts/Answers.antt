@@ -1,23 +1,9 @@
-use Rattle.std.proofs.Common.{◌≡◌, [], ℕ, ◌<◌, ◌≤◌, length, get_or, Ok, Err, ap, refl, sym, ◌∙◌, rules, arith}
-use Rattle.sn_app.specs.Apps.{source_one, source_output, source_pull}
-use Rattle.sn_app.specs.Loops.{Did, Goes}
-use Rattle.sn_app.specs.Ports.{KeepsRows, SamePorts, out_ports, out_row, outs_of, slots_of}
-use Rattle.sn_app.specs.Reader.{times}
+use Rattle.std.proofs.Common.{◌≡◌, ◌∙◌, [], ℕ, ◌<◌, length, Ok, Err, ap, refl, sym, rules, arith}
+use Rattle.sn_app.specs.Apps.{source_burst, source_pull}
+use Rattle.sn_app.specs.Ports.{in_ports, in_row, ins_of, out_ports, out_row, outs_of, slots_of}
 use Rattle.sn_app.specs.World.{nowhere, world}
-use Rattle.sn_app.specs.declared.ports.Ports.{Ports}
-use Rattle.sn_app.proofs.Looping.{did_as, did_gave, goes_start, item_end, item_halt, item_next, item_stop, length_rows, out_row_kept, out_within, ready_then, row_at_place}
+use Rattle.sn_app.proofs.Looping.{at_output, did_as, did_gave, goes_start, outputs_kept, outputs_count, in_row_kept, item_end, item_halt, item_next, item_stop, out_within, out_row_kept, out_within, ready_then}
 use Rattle.sn_basic.proofs.source.send_bursts.Goals as goal
-
--- a burst for the output at a place is that for its port
-burst_is : (row size : ℕ) (from to : Ports) (o : ℕ) → o < length (outs_of from) → SamePorts from to → KeepsRows (slots_of from) (slots_of to)
-    → times 102 (source_one row size (out_row to o)) ≡ source_output row size (get_or (out_ports from) o ([], 0))
-unfolding source_output
-burst_is row size from to o within same rows =
-    ap (λ r. times 102 (source_one row size r)) (out_row_kept same rows o ∙ sym (row_at_place (slots_of from) (outs_of from) o within))
-
--- as many ports as outputs
-count_is : (ports : Ports) → length (out_ports ports) ≡ length (outs_of ports)
-count_is ports = length_rows (slots_of ports) (outs_of ports)
 
 pub loop-o-init : goal.loop-o-init
 unfolding source_pull
@@ -39,17 +25,16 @@ returns-in_err-send_burst-clause-did g c =
     let ports = c.args.ports.now in
     let within : c.loop-o.o < length (outs_of ports) = omega (arith, c.outs-o-end.ensures, c.loop-o-test.true) in
     let e : c.from_residual.result ≡ Err c.in_err-send_burst.field-0.0 = search rules in
-    rw e (item_halt (out_ports ports) c.loop-o.o (source_output c.args.row c.args.size) kept ([], 0) (omega (arith, within, count_is ports))
-      (did_as (burst_is c.args.row c.args.size ports c.loop-o.ports c.loop-o.o within kept.same kept.rows) c.in_err-send_burst.ensures.did))
+    rw e (item_halt (out_ports ports) c.loop-o.o (λ port. source_burst c.args.row c.args.size port.1) kept ([], 0) (omega (arith, within, outputs_count ports))
+      (did_as (at_output (source_burst c.args.row c.args.size) c.loop-o.o within kept.same kept.rows) c.in_err-send_burst.ensures.did))
 
 pub returns-then-not-branch-clause-did : goal.returns-then-not-branch-clause-did
 returns-then-not-branch-clause-did g c =
     let kept = c.loop-o.invariant.goes in
     let ports = c.args.ports.now in
     let within : c.loop-o.o < length (outs_of ports) = omega (arith, c.outs-o-end.ensures, c.loop-o-test.true) in
-    item_stop (out_ports ports) c.loop-o.o (source_output c.args.row c.args.size) kept ([], 0) (omega (arith, within, count_is ports))
-    (did_gave c.if-not-branch.true
-      (did_as (burst_is c.args.row c.args.size ports c.loop-o.ports c.loop-o.o within kept.same kept.rows) c.in_ok-send_burst.ensures.did))
+    item_stop (out_ports ports) c.loop-o.o (λ port. source_burst c.args.row c.args.size port.1) kept ([], 0) (omega (arith, within, outputs_count ports))
+    (did_gave c.if-not-branch.true (did_as (at_output (source_burst c.args.row c.args.size) c.loop-o.o within kept.same kept.rows) c.in_ok-send_burst.ensures.did))
 
 pub loop-o-preserved : goal.loop-o-preserved
 loop-o-preserved g c =
@@ -58,13 +43,12 @@ loop-o-preserved g c =
     let within : c.loop-o.o < length (outs_of ports) = omega (arith, c.outs-o-end.ensures, c.loop-o-test.true) in
     record {
       lent = c.in_ok-send_burst.ensures.lent ∙ c.loop-o.invariant.lent;
-      goes = item_next (out_ports ports) c.loop-o.o (source_output c.args.row c.args.size) kept ([], 0) (omega (arith, within, count_is ports))
-        (did_gave c.if-not-branch.false
-          (did_as (burst_is c.args.row c.args.size ports c.loop-o.ports c.loop-o.o within kept.same kept.rows) c.in_ok-send_burst.ensures.did));
+      goes = item_next (out_ports ports) c.loop-o.o (λ port. source_burst c.args.row c.args.size port.1) kept ([], 0) (omega (arith, within, outputs_count ports))
+        (did_gave c.if-not-branch.false (did_as (at_output (source_burst c.args.row c.args.size) c.loop-o.o within kept.same kept.rows) c.in_ok-send_burst.ensures.did));
     }
 
 pub returns-clause-did : goal.returns-clause-did
 returns-clause-did g c =
     let ports = c.args.ports.now in
-    item_end (out_ports ports) c.loop-o.o (source_output c.args.row c.args.size) c.loop-o.invariant.goes
-    (omega (arith, c.outs-o-end.ensures, c.loop-o-test.false, count_is ports))
+    item_end (out_ports ports) c.loop-o.o (λ port. source_burst c.args.row c.args.size port.1) c.loop-o.invariant.goes
+    (omega (arith, c.outs-o-end.ensures, c.loop-o-test.false, outputs_count ports))

@@ -1,0 +1,15 @@
+use Rattle.std.proofs.Common.{◌≡◌, drop}
+use Rattle.sn_app.specs.Apps.{split_input, move_some}
+use Rattle.sn_app.specs.Loops.{Goes}
+use Rattle.sn_app.specs.Ports.{in_ports, in_row, out_ports, out_row, slots_of}
+use Rattle.sn_app.specs.Reader.{on_each}
+use Rattle.sn_app.specs.World.{nowhere, world}
+use Rattle.sn_basic.proofs.split.split_input.Given as goal
+
+abbrev pub invariant-loop-o : goal.invariant-loop-o
+invariant-loop-o g l = record {
+  lent : g.C.Ctx.lender l.ctx ≡ g.C.Ctx.lender l.fn.ctx;
+  goes : Goes (on_each (drop l.o (out_ports l.fn.ports)) (λ port. move_some l.app (in_row l.fn.ports l.i) port.1)) (split_input l.app (out_ports l.fn.ports) (in_row l.fn.ports l.i))
+      (world (g.C.Ctx.tray l.fn.ctx) (g.C.Ctx.used l.fn.ctx) (slots_of l.fn.ports)) (world (g.C.Ctx.tray l.ctx) (g.C.Ctx.used l.ctx) (slots_of l.ports))
+      nowhere nowhere l.fn.ports l.ports;
+}
