@@ -17,7 +17,7 @@ use Rattle.sn_app.specs.declared.halt.Halt.{Halt}
 use Rattle.sn_app.specs.declared.ports.Ports.{Ports}
 use Rattle.sn_app.proofs.Looping.{ports_then, rows_then}
 use Rattle.sn_app.proofs.Moving.{sound_moved}
-use Rattle.sn_app.proofs.Running.{runs_bind, runs_look, runs_pure}
+use Rattle.sn_app.proofs.Running.{runs_bind, runs_fail, runs_look, runs_pure}
 use Rattle.sn_app.proofs.Sending.{line_there}
 use Rattle.sn_app.proofs.Slots.{queue_at}
 
@@ -89,3 +89,16 @@ pub room_is : {t : Tray} {u : Used} {mine : ℕ → ℕ} (ports : Ports) (o room
 room_is {t} {u} {mine} ports o room has within h sum =
     let here = readable_at t u (slots_of ports) mine (outs_of ports) o has within h in
     ap (λ n. most_queued - n) here ∙ omega (arith, sum)
+
+-- what a part of a call gives is changed, or it halts
+pub did_gives : {R S : Type 0} {m : Meaning R} (f : R → S) {t s : Tray} {u v : Used} {from to : Ports} {x : R} → Did m t s u v from to (Ok x)
+    → Did (m >>= (λ y. pure (f y))) t s u v from to (Ok (f x))
+did_gives f {s = s} {v = v} {to = to} {x} d = record {
+  runs = runs_bind (λ y. pure (f y)) d.runs (runs_pure (f x) (world s v (slots_of to)) nowhere);
+  same = d.same;
+  rows = d.rows;
+}
+
+pub did_fails : {R S : Type 0} {m : Meaning R} (k : R → Meaning S) {t s : Tray} {u v : Used} {from to : Ports} {h : Halt} → Did m t s u v from to (Err h)
+    → Did (m >>= k) t s u v from to (Err h)
+did_fails k d = record { runs = runs_fail k nowhere d.runs; same = d.same; rows = d.rows }

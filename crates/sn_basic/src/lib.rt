@@ -6,12 +6,14 @@
 //! - `byte_filter`: passes the packets with a byte at a place
 //! - `moving`: as many packets as find room go from an input to an output
 //! - `join`: from every input to one output
+//! - `sample`: passes every nth packet
 //! - `split`: from every input to every output in turn
 #![tactic(auto)]
 
 mod byte_filter;
 mod join;
 mod moving;
+mod sample;
 mod sink;
 mod source;
 mod split;
@@ -19,6 +21,7 @@ mod truncate;
 
 pub use byte_filter::ByteFilter;
 pub use join::Join;
+pub use sample::Sample;
 pub use sink::Sink;
 pub use source::Source;
 pub use split::Split;
