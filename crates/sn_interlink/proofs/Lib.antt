@@ -1,0 +1,14 @@
+pub mod Machine
+pub mod Hands
+pub mod Turning
+pub mod Effects
+pub mod Steps
+pub mod StateSteps
+pub mod RingSteps
+pub mod Parting
+pub mod Calls
+pub mod RingCalls
+pub mod LifeOfEnds
+pub mod FirstInFirstOut
+pub mod Sessions
+pub mod Ending

@@ -1,0 +1,229 @@
+-- The steps on the state word keep the rule, and tell what they should.
+use Rattle.std.proofs.Common.{◌≡◌, ◌≢◌, ◌<◌, ◌≤◌, ◌⊎◌, inl, inr, ⊎_elim, ℕ, zero, suc, ◌+◌, ◌-◌, ◌*◌, ◌%◌, ◌^◌, min, Bool, true, false, eqb, eq-eqb, ne_eqb, Option, List, [], ◌∷◌, ◌++◌, length, drop, set, Some, None, IsSome, refl, sym, ap, ap₂, ◌∙◌, subst, arith, slice_get}
+use Rattle.std.specs.Prelude.{slice_set, slice_index}
+use Rattle.std.proofs.lemmas.Bool.{true≢false, or_parts}
+use Rattle.std.proofs.lemmas.Option.{slice_get_read, slice_get_within, slice_get-get_or}
+use mathlib.Core.Option.{none, some, some-ne-none, some-injective}
+use lib.ListN.{get_elem?}
+use prog.Atomic.{either}
+use Rattle.atomic_table.specs.Table.{State, Me, step, Act, keeps, stepped, Valid, carried_after, Allows}
+use Rattle.atomic_table.proofs.Lists.{exchanged}
+use Rattle.sn_core.specs.declared.events.Side.{Side}
+use Rattle.sn_core.specs.declared.events.Side.TheVariants.{Tx, Rx}
+use Rattle.sn_packet.specs.Packet.{PacketState}
+use Rattle.sn_interlink.specs.declared.entry.LaneEntry.{LaneEntry}
+use Rattle.sn_interlink.specs.declared.view.EndState.{EndState}
+use Rattle.sn_interlink.specs.declared.view.EndState.TheVariants.{Out, Up, Closing}
+use Rattle.sn_interlink.specs.declared.view.Hand.{Hand}
+use Rattle.sn_interlink.specs.declared.view.Hand.TheVariants.{Nothing, Writing, Reading}
+use Rattle.sn_interlink.specs.declared.view.Known.{Known}
+use Rattle.sn_interlink.specs.declared.view.View.{View}
+use Rattle.sn_interlink.specs.declared.view.View.TheVariants.{Fresh, One, Both, Spent}
+use Rattle.sn_interlink.specs.Course.{Status, absent, up, gone, closing, Course, other, mine, with_status, is_up, is_closing, is_on, is_shut, field, word_of, state_of, field_in, unit, came_word, is_down, leaves, left_state, state_after, Deed, looks, attaches, misses, detaches, resets, sees, rooms, puts, takes, drains, after, Comes, Misses, Goes, Frees, Looks, Puts, AreNext, Takes, Drains, Enabled, History, course, Legal, Sane, log_of, entries_of, if_own}
+use Rattle.sn_interlink.specs.Rule.{Lying, first_of, bound_of, lies_in, Lends, reads_as, MayWrite, MayRead, HandOk, ReadsAt, PlaceOk, Fits, Ends, of_side, with_side, Stage, whole, parted, joined, views_of, words_of, Meets, Rule}
+use Rattle.sn_interlink.specs.Moves.{Half, idle, laid, taken, lends, load_of, out_of, turn, seat_of, moved, stayed, Left}
+use Rattle.sn_interlink.specs.Plays.{known_of, own_of, packet_of, turned_to, told, InRing, GoesOn, look_deed_as, look_deed, looked_at, kept_place, came_up, missed, place_left, went, freed, synced_at, room_by, roomed, far_roomed, saw, published, released, place_drained, drained, LookPlay, AttachPlay, DetachPlay, ResetPlay, SyncPlay, RoomPlay, FarRoomPlay, SeePlay, PutPlay, TakePlay, DrainPlay}
+use Rattle.sn_interlink.proofs.Machine.{sane, is_one, other_up, came_is, gone_is, down_is, shut_away, drop_first}
+use Rattle.sn_interlink.proofs.Hands.{side_differs, on_up}
+use Rattle.sn_interlink.proofs.Effects.{own_fits, kind, kind_still, back_as_it_went, back_with_packet, back_emptied}
+
+use Rattle.sn_interlink.proofs.Steps.{Turns, Rests, Steps, own_entries, log_more, up_if, closing_if, away_if, mine_with, mine_same, mine_freed, puts_with, read_with, words_with, left_of, word_at, put_at, read_at}
+
+-- a load of the state word
+look_same : (b : Bool) (side : Side) (n : ℕ) (c : Course) → after side (look_deed_as b n) c ≡ c
+look_same true side n c = refl
+look_same false side n c = refl
+
+pub look_enabled : (b : Bool) (side : Side) (n : ℕ) (c : Course) → is_down n ≡ b → Sane c → n ≡ word_of c → Enabled side (look_deed_as b n) c
+look_enabled true side n c e s found = record {
+  away = shut_away side c s (sym (down_is c s) ∙ ap is_down (sym found) ∙ e);
+  why = e ∙ sym (eq-eqb n n refl);
+}
+look_enabled false side n c e s found = tt
+
+-- what an end knows fits a history that leaves the machine
+pub fits_still : (side : Side) (hist : History) (d : Deed) (u w : Known) → course ((side, d) ∷ hist) ≡ course hist → Fits side u hist → w.log ≡ u.log ++ entries_of d → w.state ≡ u.state
+    → PlaceOk side w.place (course hist) → HandOk side w.hand (course hist) → Fits side w ((side, d) ∷ hist)
+fits_still side hist d u w same f log state place hand = record {
+  log = log ∙ log_more side hist d u.log f.log;
+  state = state ∙ f.state ∙ ap (λ c. state_of (mine side c)) (sym same);
+  place = subst (PlaceOk side w.place) (sym same) place;
+  hand = subst (HandOk side w.hand) (sym same) hand;
+}
+
+pub look_steps : (slots : ℕ) (side : Side) (v : Known) (half : Half) → Steps side v half 0 (λ n. n) (LookPlay (step slots 0 0 0 none) (One side v, out_of v.hand half))
+look_steps slots side v half s hist k m is bound =
+    let n : ℕ = slice_index s.words 0 in
+    let u : Known = of_side side k in
+    let d : Deed = look_deed n in
+    let w : Known = looked_at n u in
+    let same : course ((side, d) ∷ hist) ≡ course hist = look_same (is_down n) side n (course hist) in
+    let f = own_fits s hist parted k side m in
+    let found = word_at s hist parted k m in
+    inr (record {
+      d = d;
+      w = w;
+      left = kind_still s hist k side d half w 0 n m (look_enabled (is_down n) side n (course hist) refl (sane hist m.legal) found)
+          (fits_still side hist d u w same f refl refl f.place f.hand)
+          (ap (λ ws. slice_set ws 0 (slice_index ws 0)) m.words ∙ ap words_of (sym same)) same refl;
+      told = ap₂ (λ x h. (One side (looked_at n x), out_of h half)) is (ap (λ x. x.hand) is);
+    })
+
+-- positions after a change of status
+place_came : (side : Side) (place : Option ℕ) (c : Course) → PlaceOk side place c → PlaceOk side (kept_place side place) (with_status side up c)
+place_came Tx place c ok = ok
+place_came Rx place c ok = tt
+
+place_went : (b : Bool) (side : Side) (place : Option ℕ) (c : Course) → PlaceOk side place c → PlaceOk side (place_left (left_state b) side place) (with_status side (leaves b) c)
+place_went true Tx place c ok = ok
+place_went false Tx place c ok = ok
+place_went true Rx place c ok = tt
+place_went false Rx None c ok = tt
+place_went false Rx (Some a) c ok = record { is_there = refl; here = ok.here }
+
+place_freed : (side : Side) (place : Option ℕ) (c : Course) → PlaceOk side place c → PlaceOk side (kept_place side place) (record { tx = absent; rx = absent; puts = c.puts; read = c.read })
+place_freed Tx place c ok = ok
+place_freed Rx place c ok = tt
+
+-- the end comes up
+pub attach_steps : (slots : ℕ) (side : Side) (v : Known) (seen : ℕ) → v.state ≡ Out → is_down seen ≡ false
+    → Steps side v idle 0 (λ n. either (eqb n seen) (came_word side seen) n) (AttachPlay (step slots 0 seen (came_word side seen) none) (One side v, out_of v.hand idle))
+attach_steps slots side v seen out open_yet s hist k m is bound =
+    exchanged n seen (came_word side seen) (λ x. Turns s hist k side idle 0 x tells ⊎ Rests s hist k side idle 0 x tells) hit miss
+  where
+    n : ℕ
+    n = slice_index s.words 0
+
+    u : Known
+    u = of_side side k
+
+    c : Course
+    c = course hist
+
+    tells : Me Lying View → Type 0
+    tells = AttachPlay (step slots 0 seen (came_word side seen) none) (One side v, out_of v.hand idle) n
+
+    f : Fits side u hist
+    f = own_fits s hist parted k side m
+
+    found : n ≡ word_of c
+    found = word_at s hist parted k m
+
+    away : is_up (mine side c) ≡ false
+    away = away_if (mine side c) (sym f.state ∙ ap (λ x. x.state) is ∙ out)
+
+    hit : n ≡ seen → Turns s hist k side idle 0 (came_word side seen) tells ⊎ Rests s hist k side idle 0 (came_word side seen) tells
+    hit e = inl (record {
+      d = attaches n;
+      w = came_up side n u;
+      left = kind s hist k side (attaches n) idle (came_up side n u) 0 (came_word side seen) m
+          (record { found = found; away = away; open_yet = sym (down_is c (sane hist m.legal)) ∙ ap is_down (sym found ∙ e) ∙ open_yet })
+          (record {
+            log = log_more side hist (attaches n) u.log f.log;
+            state = sym (ap state_of (mine_with side up c));
+            place = place_came side u.place c f.place;
+            hand = tt;
+          })
+          (ap₂ (λ ws x. slice_set ws 0 x) m.words (ap (came_word side) (sym e ∙ found) ∙ came_is side c) ∙ words_with side up c)
+          (back_as_it_went s hist k side (with_status side up c) m (read_with side up c) (puts_with side up c));
+      told = (λ _. ap (λ x. (One side (came_up side n x), [])) is, λ differ. absurd (differ e));
+    })
+
+    miss : n ≢ seen → Turns s hist k side idle 0 n tells ⊎ Rests s hist k side idle 0 n tells
+    miss differ = inr (record {
+      d = misses seen n;
+      w = missed seen n u;
+      left = kind_still s hist k side (misses seen n) idle (missed seen n u) 0 n m
+          (record { away = away; why = open_yet ∙ sym (ne_eqb n seen differ) })
+          (fits_still side hist (misses seen n) u (missed seen n u) refl f refl refl f.place f.hand)
+          (ap (λ ws. slice_set ws 0 (slice_index ws 0)) m.words) refl refl;
+      told = (λ e. absurd (differ e), λ _. ap₂ (λ x h. (One side (missed seen n x), out_of h idle)) is (ap (λ x. x.hand) is));
+    })
+
+-- the end goes
+pub detach_steps : (slots : ℕ) (side : Side) (v : Known) → v.state ≡ Up
+    → Steps side v idle 0 (λ n. (n + unit side) % 2 ^ 64) (DetachPlay (step slots 0 (unit side) 0 none) (One side v, out_of v.hand idle))
+detach_steps slots side v is_state s hist k m is bound =
+    inl (record {
+      d = detaches n;
+      w = w;
+      left = kind s hist k side (detaches n) idle w 0 ((n + unit side) % 2 ^ 64) m
+          (record { found = found; is_there = up_now })
+          (record {
+            log = log_more side hist (detaches n) u.log f.log;
+            state = ap left_state closer ∙ left_of b ∙ sym (ap state_of (mine_with side (leaves b) c));
+            place = subst (λ x. PlaceOk side (place_left (left_state x) side u.place) (with_status side (leaves b) c)) (sym closer) (place_went b side u.place c f.place);
+            hand = tt;
+          })
+          (ap₂ (λ ws x. slice_set ws 0 x) m.words (ap (λ x. (x + unit side) % 2 ^ 64) found ∙ gone_is side b c up_now) ∙ words_with side (leaves b) c)
+          (back_as_it_went s hist k side (with_status side (leaves b) c) m (read_with side (leaves b) c) (puts_with side (leaves b) c));
+      told = ap (λ x. (One side (went side n x), [])) is;
+    })
+  where
+    n : ℕ
+    n = slice_index s.words 0
+
+    u : Known
+    u = of_side side k
+
+    c : Course
+    c = course hist
+
+    w : Known
+    w = went side n u
+
+    b : Bool
+    b = is_up (mine (other side) c)
+
+    f : Fits side u hist
+    f = own_fits s hist parted k side m
+
+    found : n ≡ word_of c
+    found = word_at s hist parted k m
+
+    up_now : mine side c ≡ up
+    up_now = up_if (mine side c) (sym f.state ∙ ap (λ x. x.state) is ∙ is_state)
+
+    closer : eqb (field_in (other side) n) 1 ≡ b
+    closer = ap (λ x. eqb (field_in (other side) x) 1) found ∙ other_up side c
+
+-- what a reading hand that has no position left says of a closer
+pub record Ended (v : Known) : Type 0 where
+  pub first : ℕ
+  pub lying : Lying
+  pub hand : v.hand ≡ Reading first first lying
+
+-- the closing end sets the interlink free
+pub reset_steps : (slots : ℕ) (side : Side) (v : Known) → v.state ≡ Closing → Ended v
+    → Steps side v idle 0 (λ _. 0) (λ n. ResetPlay (step slots 0 0 0 none) (One side v, out_of v.hand idle) 0)
+reset_steps slots side v is_state ended s hist k m is bound =
+    inl (record {
+      d = resets;
+      w = freed side u;
+      left = kind s hist k side resets idle (freed side u) 0 0 m
+          (record { closes = closing_now; empty = sym reads.next ∙ reads.ended closing_now })
+          (record {
+            log = log_more side hist resets u.log f.log;
+            state = sym (ap state_of (mine_freed side c));
+            place = place_freed side u.place c f.place;
+            hand = tt;
+          })
+          (ap (λ ws. slice_set ws 0 0) m.words)
+          (back_as_it_went s hist k side (record { tx = absent; rx = absent; puts = c.puts; read = c.read }) m refl refl);
+      told = ap (λ x. (One side (freed side x), [])) is;
+    })
+  where
+    u : Known
+    u = of_side side k
+
+    c : Course
+    c = course hist
+
+    f : Fits side u hist
+    f = own_fits s hist parted k side m
+
+    closing_now : mine side c ≡ closing
+    closing_now = closing_if (mine side c) (sym f.state ∙ ap (λ x. x.state) is ∙ is_state)
+
+    reads : MayRead c side ended.first ended.first ended.lying
+    reads = subst (λ h. HandOk side h c) (ap (λ x. x.hand) is ∙ ended.hand) f.hand

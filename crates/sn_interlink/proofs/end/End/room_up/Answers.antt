@@ -1,0 +1,6 @@
+use Rattle.std.proofs.Common.{rules, sym, ap, ◌∙◌, refl, subst, ◌<◌}
+use Rattle.sn_interlink.proofs.RingCalls.{room_allowed}
+use Rattle.sn_interlink.proofs.end.End.room_up.Goals as goal
+
+pub load-read-requires : goal.load-read-requires
+load-read-requires c = (search rules, search rules, room_allowed _ _ _ _ c.self.invariant (search rules) (search rules) (search rules))
