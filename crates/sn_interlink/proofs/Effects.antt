@@ -1,26 +1,26 @@
 -- What each step leaves: where the longer history leads, with the slots turned or as they were.
-use Rattle.std.proofs.Common.{◌≡◌, ◌≢◌, ◌<◌, ◌≤◌, ◌⊎◌, inl, inr, ⊎_elim, ℕ, zero, suc, ◌+◌, ◌%◌, ◌^◌, Bool, true, false, Option, List, [], ◌∷◌, ◌++◌, length, set, Some, None, refl, sym, ap, ◌∙◌, subst, arith, slice_get}
-use Rattle.std.specs.Prelude.{slice_set, slice_index}
+use Rattle.std.proofs.Common.{◌≡◌, ◌≢◌, ◌<◌, ◌≤◌, ◌⊎◌, inl, inr, ⊎_elim, ℕ, ◌+◌, ◌%◌, Bool, true, false, List, [], ◌∷◌, ◌++◌, length, refl, sym, ap, ◌∙◌, subst, arith, slice_get}
+use Rattle.std.specs.Prelude.{slice_set}
 use Rattle.std.proofs.lemmas.Bool.{cases_eq}
 use Rattle.std.proofs.lemmas.List.{length-append}
 use Rattle.std.proofs.lemmas.Option.{slice_get_past}
 use mathlib.Core.Option.{none, some, some-ne-none, some-injective}
 use mathlib.Core.Option as maybe
 use lib.ListN.{get_elem?}
-use Rattle.atomic_table.specs.Table.{State, Me, Act, keeps, stepped, Valid, carried_after, homes_after, Allows}
+use Rattle.atomic_table.specs.Table.{State, homes_after}
 use Rattle.sn_core.specs.declared.events.Side.{Side}
 use Rattle.sn_core.specs.declared.events.Side.TheVariants.{Tx, Rx}
 use Rattle.sn_packet.specs.Packet.{PacketState}
 use Rattle.sn_interlink.specs.declared.view.Hand.{Hand}
 use Rattle.sn_interlink.specs.declared.view.Known.{Known}
 use Rattle.sn_interlink.specs.declared.view.View.{View}
-use Rattle.sn_interlink.specs.declared.view.View.TheVariants.{Fresh, One, Both, Spent}
-use Rattle.sn_interlink.specs.Course.{Course, other, mine, Deed, after, Enabled, History, course, Legal, Sane}
-use Rattle.sn_interlink.specs.Rule.{Lying, first_of, bound_of, lies_in, Lends, HandOk, Fits, Ends, of_side, with_side, Stage, whole, parted, joined, views_of, Cells, words_of, Meets, Rule}
-use Rattle.sn_interlink.specs.Moves.{Half, idle, laid, taken, carry, lends, if_out, out_of, if_gives, if_takes, turn, seat_of, moved, stayed, Left}
-use Rattle.sn_interlink.proofs.Machine.{sane, sane_after, slice_get-front, slice_get-last, lt_or_le}
-use Rattle.sn_interlink.proofs.Hands.{tx_fits_on, rx_fits_on, OutPlace, out_place, alone}
-use Rattle.sn_interlink.proofs.Turning.{given, fetched, turn_valid, turn_carried, turn_homes, length_turned, lends_true, lends_false, Elsewhere, elsewhere, read_given, read_back, read_fetched}
+use Rattle.sn_interlink.specs.declared.view.View.TheVariants.{One}
+use Rattle.sn_interlink.specs.Course.{Course, other, Deed, Enabled, History, course, Sane}
+use Rattle.sn_interlink.specs.Rule.{Lying, first_of, lies_in, Lends, HandOk, Fits, Ends, of_side, with_side, Stage, parted, views_of, Cells, words_of, Meets}
+use Rattle.sn_interlink.specs.Moves.{Half, idle, laid, taken, carry, lends, out_of, turn, seat_of, stayed, Left}
+use Rattle.sn_interlink.proofs.Machine.{sane, slice_get-front, slice_get-last, lt_or_le}
+use Rattle.sn_interlink.proofs.Hands.{tx_fits_on, rx_fits_on, out_place, alone}
+use Rattle.sn_interlink.proofs.Turning.{given, fetched, turn_valid, turn_carried, turn_homes, length_turned, lends_true, lends_false, elsewhere, read_given, read_back, read_fetched}
 
 -- a place of the window whose slot is given back now
 pub record Returned (v : Known) (half : Half) (c' : Course) (q : ℕ) : Type 0 where
@@ -172,6 +172,7 @@ window : (s : State Lying View) (hist : History) (k : Ends) (side : Side) → Me
 window s hist k side m = record {
   lent = λ q e same. (out_place side (of_side side k).hand (course hist) q (sane hist m.legal) (own_fits s hist parted k side m).hand (record { here = same; within = lends_true (of_side side k).hand e })).what;
 }
+
 -- slots come back as they went out
 pub back_as_it_went : (s : State Lying View) (hist : History) (k : Ends) (side : Side) (c' : Course) → Meets s hist parted k → c'.read ≡ (course hist).read → c'.puts ≡ (course hist).puts
     → Back (of_side side k) idle (course hist) c'

@@ -1,21 +1,19 @@
 -- What is known of the table of an interlink whose ends are both out.
-use Rattle.std.proofs.Common.{◌≡◌, ◌<◌, ℕ, zero, suc, Bool, true, false, List, [], ◌∷◌, length, Some, None, Option, refl, sym, ap, ap₂, ◌∙◌, subst, subst₂, arith}
+use Rattle.std.proofs.Common.{◌≡◌, ℕ, zero, suc, Bool, true, false, List, [], ◌∷◌, Some, refl, sym, ap, ◌∙◌, subst, subst₂}
 use Rattle.std.specs.Prelude.{slice_index}
 use mathlib.Core.Option.{some, some-injective, some-ne-none}
 use lib.ListN.{get_elem?}
-use Rattle.atomic_table.specs.Table.{State, Me, Final, Seen, Joins}
+use Rattle.atomic_table.specs.Table.{State, Final, Seen, Joins}
 use Rattle.sn_core.specs.declared.events.Side.TheVariants.{Tx, Rx}
-use Rattle.sn_interlink.specs.declared.entry.LaneEntry.{LaneEntry}
 use Rattle.sn_interlink.specs.declared.view.EndState.{EndState}
 use Rattle.sn_interlink.specs.declared.view.EndState.TheVariants.{Out, Up, Closing}
 use Rattle.sn_interlink.specs.declared.view.Known.{Known}
 use Rattle.sn_interlink.specs.declared.view.View.{View}
-use Rattle.sn_interlink.specs.declared.view.View.TheVariants.{One, Both, Spent}
-use Rattle.sn_interlink.specs.Course.{Status, absent, up, gone, closing, Course, is_on, state_of, ok_pair, History, course, Legal, Sane, log_of}
+use Rattle.sn_interlink.specs.declared.view.View.TheVariants.{One, Spent}
+use Rattle.sn_interlink.specs.Course.{Status, absent, up, gone, closing, Course, is_on, state_of, ok_pair, course, log_of}
 use Rattle.sn_interlink.specs.Rule.{Lying, Rule}
 use Rattle.sn_interlink.specs.Plays.{known_of, both_parts}
-use Rattle.sn_interlink.specs.Ends.{LaneId, LaneEnd, shown_log}
-use Rattle.sn_interlink.specs.Closing.{IsSeatOf, other_known}
+use Rattle.sn_interlink.specs.Closing.{other_known}
 use Rattle.sn_interlink.specs.Receipt.{IsLife, Fifo}
 use Rattle.sn_interlink.proofs.Machine.{sane}
 use Rattle.sn_interlink.proofs.LifeOfEnds.{lives}
@@ -82,7 +80,7 @@ closed id view a b words slots is tx_out rx_out f =
     let s = f.0 in
     subst (λ v. Tells (known_of v) (other_known v) words) (sym is)
     (subst (Tells (known_of a) (known_of b)) f.2
-      (tells_of s (known_of a) (known_of b) (together s id (known_of a) (known_of b) f.1.0 (f.1.1 ∙ ap (λ v. some v) is)) tx_out rx_out))
+    (tells_of s (known_of a) (known_of b) (together s id (known_of a) (known_of b) f.1.0 (f.1.1 ∙ ap (λ v. some v) is)) tx_out rx_out))
 
 -- a word that was read
 pub word_is : (words : List ℕ) (i n : ℕ) → get_elem? words i ≡ some n → slice_index words i ≡ n

@@ -1,18 +1,15 @@
 -- The logs of a legal history put, take and drain each position once and in order, session by session.
-use Rattle.std.proofs.Common.{◌≡◌, ◌≢◌, ◌<◌, ◌≤◌, ◌⊎◌, inl, inr, ⊎_elim, ℕ, zero, suc, ◌+◌, ◌*◌, ◌/◌, Bool, true, false, not, ◌&&◌, ◌||◌, eqb, Option, List, [], ◌∷◌, ◌++◌, length, drop, Some, None, refl, sym, ap, ap₂, ◌∙◌, subst, arith, slice_get}
-use Rattle.std.specs.Prelude.{if◌then◌else◌}
-use Rattle.std.proofs.lemmas.Bool.{or_parts, cases_eq}
+use Rattle.std.proofs.Common.{◌≡◌, ◌≤◌, ℕ, suc, ◌+◌, Bool, true, false, List, [], ◌∷◌, ◌++◌, length, drop, refl, sym, ap, ap₂, ◌∙◌, arith}
 use Rattle.std.proofs.lemmas.List.{append-nil, length-append, append_assoc}
-use Rattle.std.proofs.lemmas.Option.{slice_get_past, slice_get_within}
 use Rattle.sn_core.specs.declared.events.Side.{Side}
 use Rattle.sn_core.specs.declared.events.Side.TheVariants.{Tx, Rx}
 use Rattle.sn_packet.specs.Packet.{PacketState}
 use Rattle.sn_interlink.specs.declared.entry.LaneEntry.{LaneEntry}
 use Rattle.sn_interlink.specs.declared.entry.LaneEntry.TheVariants.{Attach, Unattached, Detach, Reset, Seen, Room, Put, Take, Drain}
-use Rattle.sn_interlink.specs.Course.{Status, absent, up, gone, closing, Course, other, mine, is_up, is_closing, is_on, is_shut, field, word_of, leaves, Deed, looks, attaches, misses, detaches, resets, sees, rooms, puts, takes, drains, after, AreNext, Enabled, History, course, Legal, Sane, ok_pair, entries_of, if_own, log_of}
-use Rattle.sn_interlink.specs.Receipt.{numbered, put_by, taken_by, drained_by, all_by, Way, by_take, by_drain, is_take, is_drain, if_so, chosen, begins_from, Among, BeginsBetween, TakesComeFirst, begun_by, reset_by, total_by, Fifo}
-use Rattle.sn_interlink.proofs.Machine.{sane, slice_get-front, slice_get-last, lt_or_le}
-use Rattle.sn_interlink.proofs.Hands.{side_differs, on_up, closes, tx_alone, rx_alone}
+use Rattle.sn_interlink.specs.Course.{Course, Deed, looks, attaches, misses, detaches, resets, sees, rooms, puts, takes, drains, after, AreNext, Enabled, History, course, Legal, Sane, entries_of, if_own, log_of}
+use Rattle.sn_interlink.specs.Receipt.{numbered, put_by, taken_by, drained_by, all_by, Way, by_take, by_drain, is_take, is_drain, if_so, chosen, total_by}
+use Rattle.sn_interlink.proofs.Machine.{sane}
+use Rattle.sn_interlink.proofs.Hands.{side_differs}
 
 -- LISTS
 
@@ -197,7 +194,7 @@ module _ (test : Way → Bool) (ws : List Way) (c : Course) (long : length ws �
   received way place packets what =
       chosen-append test 0 ws (ways_by way packets) c.puts (omega (arith, long, s.order))
       ∙ ap (λ l. chosen test 0 ws c.puts ++ l) (ap₂ (λ n m. chosen test n (ways_by way packets) (drop m c.puts)) (let e = what.next in omega (arith, long, e)) long
-          ∙ ap (chosen test place (ways_by way packets)) what.first ∙ chosen-alike test way (test way) refl place packets what.rest)
+      ∙ ap (chosen test place (ways_by way packets)) what.first ∙ chosen-alike test way (test way) refl place packets what.rest)
 
   grows : (by : Side) (d : Deed) → Enabled by d c → chosen test 0 (ws ++ new_ways by d) (after by d c).puts ≡ chosen test 0 ws c.puts ++ new_received test by d
   unfolding new_ways

@@ -1,19 +1,18 @@
 -- What an end knows stays true while the other one steps, and two ends never have one slot out.
-use Rattle.std.proofs.Common.{◌≡◌, ◌≢◌, ◌<◌, ◌≤◌, ℕ, zero, suc, ◌+◌, ◌%◌, ◌^◌, Bool, true, false, Option, List, [], ◌∷◌, ◌++◌, length, Some, None, refl, sym, ap, ◌∙◌, subst, arith, slice_get}
+use Rattle.std.proofs.Common.{◌≡◌, ◌<◌, ◌≤◌, ℕ, ◌+◌, Bool, true, false, Option, ◌∷◌, length, Some, None, refl, sym, ap, ◌∙◌, subst, arith, slice_get}
 use Rattle.std.proofs.lemmas.Bool.{or_parts}
 use Rattle.std.proofs.lemmas.List.{append-nil, length-append}
 use Rattle.std.proofs.lemmas.Option.{slice_get_past}
 use Rattle.sn_core.specs.declared.events.Side.{Side}
 use Rattle.sn_core.specs.declared.events.Side.TheVariants.{Tx, Rx}
 use Rattle.sn_packet.specs.Packet.{PacketState}
-use Rattle.sn_interlink.specs.declared.view.EndState.{EndState}
 use Rattle.sn_interlink.specs.declared.view.EndState.TheVariants.{Out}
 use Rattle.sn_interlink.specs.declared.view.Hand.{Hand}
 use Rattle.sn_interlink.specs.declared.view.Hand.TheVariants.{Nothing, Writing, Reading}
 use Rattle.sn_interlink.specs.declared.view.Known.{Known}
-use Rattle.sn_interlink.specs.Course.{Status, absent, up, gone, closing, Course, other, mine, is_up, is_closing, is_on, is_shut, state_of, Deed, looks, attaches, misses, detaches, resets, sees, rooms, puts, takes, drains, after, Enabled, History, course, Legal, log_of, entries_of, if_own, ok_pair, Sane}
-use Rattle.sn_interlink.specs.Rule.{first_of, bound_of, lies_in, Lends, reads_as, MayWrite, MayRead, HandOk, ReadsAt, PlaceOk, Fits}
-use Rattle.sn_interlink.proofs.Machine.{up_not_absent, tx_closes, rx_closes, on_if_closing, slice_get-front}
+use Rattle.sn_interlink.specs.Course.{Status, absent, up, gone, closing, Course, mine, is_closing, is_on, state_of, Deed, looks, attaches, misses, detaches, resets, sees, rooms, puts, takes, drains, after, Enabled, History, course, log_of, Sane}
+use Rattle.sn_interlink.specs.Rule.{lies_in, Lends, reads_as, MayWrite, MayRead, HandOk, ReadsAt, PlaceOk, Fits}
+use Rattle.sn_interlink.proofs.Machine.{tx_closes, rx_closes, on_if_closing, slice_get-front}
 
 pub side_differs : Tx ≡ Rx → ⊥
 side_differs e = let b : true ≡ false = ap is_tx e in cc

@@ -1,5 +1,5 @@
 -- Each end's log is a life.
-use Rattle.std.proofs.Common.{◌≡◌, ◌≢◌, ℕ, zero, suc, Bool, true, false, not, ◌&&◌, ◌||◌, eqb, Option, List, [], ◌∷◌, ◌++◌, Some, None, refl, sym, ap, ap₂, ◌∙◌, subst, arith}
+use Rattle.std.proofs.Common.{◌≡◌, ℕ, Bool, true, false, not, ◌&&◌, eqb, Option, List, [], ◌∷◌, ◌++◌, Some, None, refl, sym, ap, ◌∙◌}
 use Rattle.std.specs.Prelude.{option_and_then}
 use Rattle.std.proofs.lemmas.Bool.{or_parts}
 use Rattle.std.proofs.lemmas.List.{append-nil}
@@ -9,11 +9,11 @@ use Rattle.sn_interlink.specs.declared.entry.LaneEntry.{LaneEntry}
 use Rattle.sn_interlink.specs.declared.entry.LaneEntry.TheVariants.{Attach, Unattached, Detach, Reset}
 use Rattle.sn_interlink.specs.declared.view.EndState.{EndState}
 use Rattle.sn_interlink.specs.declared.view.EndState.TheVariants.{Out, Up, Closing}
-use Rattle.sn_interlink.specs.Course.{Status, absent, up, gone, closing, Course, other, mine, is_up, is_closing, is_on, is_shut, word_of, state_of, field_in, left_state, state_after, leaves, is_down, Deed, looks, attaches, misses, detaches, resets, sees, rooms, puts, takes, drains, after, Comes, Goes, Enabled, History, course, Legal, Sane, entries_of, log_of}
-use Rattle.sn_interlink.specs.Receipt.{where_true, may_come, both_or_neither, missed_well, next_state, state_by}
+use Rattle.sn_interlink.specs.Course.{Status, absent, up, gone, closing, Course, other, mine, is_up, is_closing, is_on, is_shut, state_of, field_in, left_state, state_after, leaves, is_down, Deed, looks, attaches, misses, detaches, resets, sees, rooms, puts, takes, drains, after, Comes, Enabled, History, course, Legal, Sane, entries_of, log_of}
+use Rattle.sn_interlink.specs.Receipt.{where_true, both_or_neither, next_state, state_by}
 use Rattle.sn_interlink.proofs.Machine.{sane, is_one, other_up, field_of_side, down_is}
 use Rattle.sn_interlink.proofs.Hands.{tx_state_stays, rx_state_stays, side_differs}
-use Rattle.sn_interlink.proofs.Steps.{mine_with, mine_same, mine_freed, left_of}
+use Rattle.sn_interlink.proofs.Steps.{mine_with, mine_freed, left_of}
 
 state_by-append : (side : Side) (s : EndState) (xs ys : List LaneEntry) → state_by side s (xs ++ ys) ≡ option_and_then (λ t. state_by side t ys) (state_by side s xs)
 state_by-append side s [] ys = refl
@@ -52,7 +52,7 @@ alike false false e = refl
 coming : (side : Side) (word : ℕ) (c : Course) → Sane c → Comes side word c → next_state side Out (Attach word) ≡ Some Up
 coming side word c s en =
     ap (λ b. where_true b Up) (neither (is_down word) (eqb (field_in side word) 1) (ap is_down en.found ∙ down_is c s ∙ en.open_yet)
-      (ap (λ w. eqb (field_in side w) 1) en.found ∙ ap (λ n. eqb n 1) (field_of_side side c) ∙ is_one (mine side c) ∙ en.away))
+    (ap (λ w. eqb (field_in side w) 1) en.found ∙ ap (λ n. eqb n 1) (field_of_side side c) ∙ is_one (mine side c) ∙ en.away))
 
 missing : (side : Side) (s : Status) (seen found : ℕ) → is_up s ≡ false → is_down seen ≡ eqb found seen → state_by side (state_of s) (Unattached seen found ∷ []) ≡ Some (state_of s)
 missing side absent seen found a w = ap (λ b. option_and_then (λ n. state_by side n []) (where_true b Out)) (alike (is_down seen) (eqb found seen) w)

@@ -1,12 +1,11 @@
 -- Wherever a legal history leads, the machine is sane, and its word says which ends are up.
-use Rattle.std.proofs.Common.{◌≡◌, ◌≢◌, ◌<◌, ◌≤◌, ◌⊎◌, inl, inr, ℕ, zero, suc, ◌+◌, ◌-◌, ◌*◌, ◌/◌, ◌%◌, ◌^◌, Bool, true, false, not, ◌&&◌, ◌||◌, eqb, List, [], ◌∷◌, ◌++◌, length, drop, Some, None, refl, sym, ap, ◌∙◌, subst, arith, slice_get}
+use Rattle.std.proofs.Common.{◌≡◌, ◌<◌, ◌≤◌, ◌⊎◌, inl, inr, ℕ, zero, suc, ◌+◌, ◌*◌, ◌%◌, ◌^◌, Bool, true, false, ◌||◌, eqb, List, [], ◌∷◌, ◌++◌, length, drop, Some, refl, sym, ap, ◌∙◌, subst, arith, slice_get}
 use Rattle.std.proofs.lemmas.List.{length-append}
 use native.Mathlib.Decide.{dec_lt}
-use Rattle.std.proofs.lemmas.Option.{slice_get_past}
 use Rattle.sn_core.specs.declared.events.Side.{Side}
 use Rattle.sn_core.specs.declared.events.Side.TheVariants.{Tx, Rx}
 use Rattle.sn_packet.specs.Packet.{PacketState}
-use Rattle.sn_interlink.specs.Course.{Status, absent, up, gone, closing, Course, other, mine, with_status, is_up, is_closing, is_on, is_shut, field, word_of, field_in, unit, came_word, is_down, leaves, Deed, looks, attaches, misses, detaches, resets, sees, rooms, puts, takes, drains, after, Comes, Misses, Goes, Frees, AreNext, Puts, Takes, Drains, Enabled, History, course, Legal, ok_pair, Sane}
+use Rattle.sn_interlink.specs.Course.{Status, absent, up, gone, closing, Course, other, mine, with_status, is_up, is_closing, is_on, is_shut, field, word_of, field_in, unit, came_word, is_down, leaves, Deed, looks, attaches, misses, detaches, resets, sees, rooms, puts, takes, drains, after, Enabled, History, course, Legal, ok_pair, Sane}
 
 pub up_not_absent : up ≡ absent → ⊥
 up_not_absent e = let b : true ≡ false = ap is_up e in cc

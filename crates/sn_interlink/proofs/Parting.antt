@@ -1,16 +1,15 @@
 -- The rule at the opening, when the ends part, when they join, and when the table is closed.
-use Rattle.std.proofs.Common.{◌≡◌, ◌≢◌, ◌<◌, ◌≤◌, ℕ, zero, suc, ◌+◌, ◌%◌, ◌^◌, Bool, true, false, Option, List, [], ◌∷◌, ◌++◌, map, replicate, length, set, Some, None, refl, sym, ap, ap₂, ◌∙◌, subst, arith, slice_get}
-use Rattle.std.specs.Prelude.{slice_set, slice_index}
-use mathlib.Core.Option.{none, some, some-ne-none, some-injective}
-use mathlib.Core.Option as maybe
+use Rattle.std.proofs.Common.{◌≡◌, ◌<◌, ℕ, zero, suc, ◌%◌, Bool, true, false, [], ◌∷◌, ◌++◌, map, replicate, length, Some, None, refl, sym, ap, ap₂, ◌∙◌, arith}
+use Rattle.std.specs.Prelude.{slice_set}
+use mathlib.Core.Option.{some, some-ne-none, some-injective}
 use lib.ListN.{get_elem?}
 use Rattle.atomic_table.specs.Table.{State, opening, Splits, Joins}
 use Rattle.sn_core.specs.declared.events.Side.TheVariants.{Tx, Rx}
 use Rattle.sn_interlink.specs.declared.view.Known.{Known}
 use Rattle.sn_interlink.specs.declared.view.View.{View}
 use Rattle.sn_interlink.specs.declared.view.View.TheVariants.{Fresh, One, Both, Spent}
-use Rattle.sn_interlink.specs.Rule.{Lying, Ends, Stage, whole, parted, joined, views_of, Meets, Rule, new_end, opening_view}
-use Rattle.sn_interlink.specs.Plays.{known_of, tx_part, rx_part, both_parts}
+use Rattle.sn_interlink.specs.Rule.{Lying, Stage, whole, parted, joined, views_of, Meets, Rule, new_end, opening_view}
+use Rattle.sn_interlink.specs.Plays.{known_of}
 
 nothing_at : (n k : ℕ) → k < n → get_elem? (map some (replicate {A = Lying} n None)) k ≡ some (some None)
 nothing_at zero k lt = absurd (omega arith)

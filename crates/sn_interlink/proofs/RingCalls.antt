@@ -1,44 +1,25 @@
 -- What the calls on the ring ask of an end's fields, and what they leave of them.
-use Rattle.std.proofs.Common.{◌≡◌, ◌≢◌, ◌<◌, ◌≤◌, ◌⊎◌, inl, inr, ⊎_elim, ℕ, zero, suc, ◌+◌, ◌-◌, ◌*◌, ◌%◌, ◌^◌, min, Bool, true, false, ◌||◌, eqb, eq-eqb, ne_eqb, Option, List, [], ◌∷◌, ◌++◌, length, drop, set, Some, None, IsSome, refl, sym, ap, ap₂, ◌∙◌, subst, arith, slice_get}
-use Rattle.std.specs.Prelude.{slice_set, slice_index, unwrap_or}
-use Rattle.std.proofs.lemmas.Bool.{true≢false, or_parts, lt-ltb}
-use Rattle.std.proofs.lemmas.List.{append-nil, length-append}
-use Rattle.std.proofs.lemmas.Option.{slice_get_read, slice_get_within, slice_get-get_or}
-use mathlib.Core.Option.{none, some, some-ne-none, some-injective}
-use lib.ListN.{get_elem?}
-use prog.Atomic.{either}
-use Rattle.atomic_table.specs.Table.{State, Me, step, rest, Act, keeps, stepped, Valid, carried_after, Allows}
-use Rattle.atomic_table.proofs.Lists.{exchanged}
+use Rattle.std.proofs.Common.{◌≡◌, ◌<◌, ℕ, ◌+◌, ◌%◌, Bool, true, false, [], ◌∷◌, Some, None, IsSome, refl, sym, ap, ap₂, ◌∙◌, subst, arith}
+use Rattle.std.specs.Prelude.{unwrap_or}
+use Rattle.std.proofs.lemmas.Bool.{lt-ltb}
+use mathlib.Core.Option.{none}
+use Rattle.atomic_table.specs.Table.{Me, step, rest, Allows}
 use Rattle.sn_core.specs.declared.events.Side.{Side}
 use Rattle.sn_core.specs.declared.events.Side.TheVariants.{Tx, Rx}
 use Rattle.sn_packet.specs.Packet.{PacketState}
-use Rattle.sn_interlink.specs.declared.entry.LaneEntry.{LaneEntry}
 use Rattle.sn_interlink.specs.declared.view.EndState.{EndState}
 use Rattle.sn_interlink.specs.declared.view.EndState.TheVariants.{Out, Up, Closing}
 use Rattle.sn_interlink.specs.declared.view.Hand.{Hand}
-use Rattle.sn_interlink.specs.declared.view.Hand.TheVariants.{Nothing, Writing, Reading}
+use Rattle.sn_interlink.specs.declared.view.Hand.TheVariants.{Writing, Reading}
 use Rattle.sn_interlink.specs.declared.view.Known.{Known}
 use Rattle.sn_interlink.specs.declared.view.View.{View}
-use Rattle.sn_interlink.specs.declared.view.View.TheVariants.{Fresh, One, Both, Spent}
-use Rattle.sn_interlink.specs.Course.{Status, absent, up, gone, closing, Course, other, mine, with_status, is_up, is_closing, is_on, is_shut, field, word_of, state_of, field_in, unit, came_word, is_down, leaves, left_state, state_after, Deed, looks, attaches, misses, detaches, resets, sees, rooms, puts, takes, drains, after, Comes, Misses, Goes, Frees, Looks, Puts, AreNext, Takes, Drains, Enabled, History, course, Legal, Sane, log_of, entries_of, if_own}
-use Rattle.sn_interlink.specs.Rule.{Lying, first_of, bound_of, lies_in, Lends, reads_as, MayWrite, MayRead, HandOk, ReadsAt, PlaceOk, Fits, Ends, of_side, with_side, Stage, whole, parted, joined, views_of, words_of, Meets, Rule}
-use Rattle.sn_interlink.specs.Moves.{Half, idle, laid, taken, carry, lends, load_of, if_out, out_of, turn, seat_of, moved, stayed, Left}
-use Rattle.sn_interlink.specs.Plays.{known_of, after_view, own_of, packet_of, turned_to, told, InRing, GoesOn, look_deed_as, look_deed, looked_at, kept_place, came_up, missed, place_left, went, freed, synced_at, room_by, roomed, far_roomed, saw, published, released, place_drained, drained, LookPlay, AttachPlay, DetachPlay, ResetPlay, SyncPlay, RoomPlay, FarRoomPlay, SeePlay, PutPlay, TakePlay, DrainPlay}
-use Rattle.sn_interlink.proofs.Machine.{sane, is_one, other_up, came_is, gone_is, down_is, shut_away, drop_first}
-use Rattle.sn_interlink.proofs.Hands.{side_differs, on_up}
-use Rattle.sn_interlink.proofs.Effects.{own_fits, kind, kind_still, back_as_it_went, back_with_packet, back_emptied}
-
-use Rattle.sn_interlink.specs.declared.entry.LaneEntry.TheVariants.{Room, Seen, Put, Take, Drain}
-use Rattle.sn_interlink.specs.Ends.{LaneId, LaneEnd, if_ready, is_on_state, is_tx, reach_of, own_place, if_closing, raised, lowered, looks_at, comes_up, stays_out, synced_left, goes, sets_free, syncs_at, sees_room_as, sees_packets, lays, takes_back, publishes, takes_out, drains_out, releases, half_by, laid_as, lowered_in, unreleased_in, reach_by, Fields, fields, end_as, end_of, if_known, if_synced, place_by, hand_as, hand_by, IsRaised, HandFull, FieldsFit, IsEnd}
-use Rattle.sn_interlink.specs.declared.answers.Attached.TheVariants as attached
-use Rattle.sn_interlink.specs.declared.answers.Detached.TheVariants as detached
-use Rattle.sn_interlink.specs.Answers.{AttachStep, other_is_up, DetachStep, DrainStep}
-use Rattle.sn_interlink.proofs.StateSteps.{look_steps, attach_steps, detach_steps, Ended, reset_steps}
+use Rattle.sn_interlink.specs.declared.view.View.TheVariants.{One}
+use Rattle.sn_interlink.specs.Rule.{Lying, first_of, bound_of, lies_in, Rule}
+use Rattle.sn_interlink.specs.Moves.{Half, idle, laid, taken, carry, lends, load_of, if_out, out_of}
+use Rattle.sn_interlink.specs.Plays.{known_of, SyncPlay, RoomPlay, FarRoomPlay, SeePlay, PutPlay, TakePlay, DrainPlay}
+use Rattle.sn_interlink.specs.Ends.{if_ready, is_on_state, half_by, laid_as, reach_by, Fields, if_synced, place_by, hand_as, hand_by, HandFull, FieldsFit, IsEnd}
 use Rattle.sn_interlink.proofs.RingSteps.{sync_steps, room_steps, far_room_steps, see_steps, put_steps, take_steps, drain_steps}
-use Rattle.sn_interlink.proofs.Steps.{allow, Turns, Rests, Steps, own_entries, log_more, up_if, closing_if, away_if, mine_with, mine_same, mine_freed, puts_with, read_with, words_with, left_of, word_at, put_at, read_at}
-
-
-
+use Rattle.sn_interlink.proofs.Steps.{Steps}
 use Rattle.sn_interlink.proofs.Calls.{allowed}
 
 -- the receiver learns its position
@@ -47,21 +28,21 @@ sync_allowed slots id f m inv side is_state =
     let half : Half = half_by f.half (known_of m.0).hand (load_of m.1) in
     allowed slots id f m half 2 (λ n. n) (SyncPlay (step slots 2 0 0 none)) inv refl
     (subst (λ x. Steps x (known_of m.0) half 2 (λ n. n) (SyncPlay (step slots 2 0 0 none) (One x (known_of m.0), out_of (known_of m.0).hand half))) (sym side)
-      (sync_steps slots (known_of m.0) half (inv.fit.state ∙ is_state)))
+    (sync_steps slots (known_of m.0) half (inv.fit.state ∙ is_state)))
 
 -- the transmitter sees room
 pub room_allowed : (slots id : ℕ) (f : Fields) (m : Me Lying View) → IsEnd f m → f.side ≡ Tx → f.state ≡ Up → f.half ≡ false → Allows Rule slots id m 2 (λ n. n) (RoomPlay (step slots 2 0 0 none) m)
 room_allowed slots id f m inv side is_state no_half =
     allowed slots id f m idle 2 (λ n. n) (RoomPlay (step slots 2 0 0 none)) inv (ap (λ b. half_by b (known_of m.0).hand (load_of m.1)) no_half)
     (subst (λ x. Steps x (known_of m.0) idle 2 (λ n. n) (RoomPlay (step slots 2 0 0 none) (One x (known_of m.0), out_of (known_of m.0).hand idle))) (sym side)
-      (room_steps slots (known_of m.0) (inv.fit.state ∙ is_state)))
+    (room_steps slots (known_of m.0) (inv.fit.state ∙ is_state)))
 
 -- the closing transmitter sees what is left
 pub far_room_allowed : (slots id : ℕ) (f : Fields) (m : Me Lying View) → IsEnd f m → f.side ≡ Tx → f.state ≡ Closing → f.half ≡ false → Allows Rule slots id m 2 (λ n. n) (FarRoomPlay (step slots 2 0 0 none) m)
 far_room_allowed slots id f m inv side is_state no_half =
     allowed slots id f m idle 2 (λ n. n) (FarRoomPlay (step slots 2 0 0 none)) inv (ap (λ b. half_by b (known_of m.0).hand (load_of m.1)) no_half)
     (subst (λ x. Steps x (known_of m.0) idle 2 (λ n. n) (FarRoomPlay (step slots 2 0 0 none) (One x (known_of m.0), out_of (known_of m.0).hand idle))) (sym side)
-      (far_room_steps slots (known_of m.0) (inv.fit.state ∙ is_state)))
+    (far_room_steps slots (known_of m.0) (inv.fit.state ∙ is_state)))
 
 -- THE SLOT THAT IS OUT
 
@@ -171,7 +152,7 @@ see_allowed slots id f m inv side ready no_half =
     let r = by f.state t.closing_synced ready in
     allowed slots id f m idle 1 (λ n. n) (SeePlay (step slots 1 0 0 none)) inv (ap (λ b. half_by b v.hand (load_of m.1)) no_half)
     (subst (λ x. Steps x v idle 1 (λ n. n) (SeePlay (step slots 1 0 0 none) (One x v, out_of v.hand idle))) (sym side)
-      (see_steps slots v f.place (ap is_on_state t.state ∙ r.0) (t.place ∙ ap (λ x. place_by x f.state f) side ∙ rx_place f.state f r.1)))
+    (see_steps slots v f.place (ap is_on_state t.state ∙ r.0) (t.place ∙ ap (λ x. place_by x f.state f) side ∙ rx_place f.state f r.1)))
   where
     by : (state : EndState) → (state ≡ Closing → f.synced ≡ true) → if_ready state f.synced ≡ true → (is_on_state state ≡ true) × (f.synced ≡ true)
     by Out closing' e = cc
@@ -191,9 +172,9 @@ put_allowed slots id f m next inv side is_state half next_is =
     let r = t.is_laid half side is_state in
     subst (λ w. Allows Rule slots id m 1 (λ _. w) (λ _. PutPlay (step slots 1 w 0 none) m w)) (sym next_is)
     (allowed slots id f m (laid r.packet) 1 (λ _. f.place + 1) (λ u _. PutPlay (step slots 1 (f.place + 1) 0 none) u (f.place + 1)) inv
-      (laid_half f v (load_of m.1) t side is_state half r.packet r.what)
-      (subst (λ x. Steps x v (laid r.packet) 1 (λ _. f.place + 1) (λ _. PutPlay (step slots 1 (f.place + 1) 0 none) (One x v, out_of v.hand (laid r.packet)) (f.place + 1))) (sym side)
-        (put_steps slots v f.place f.bound r.packet (writes_hand f v (load_of m.1) t side is_state (t.knows half)) (t.half half))))
+    (laid_half f v (load_of m.1) t side is_state half r.packet r.what)
+    (subst (λ x. Steps x v (laid r.packet) 1 (λ _. f.place + 1) (λ _. PutPlay (step slots 1 (f.place + 1) 0 none) (One x v, out_of v.hand (laid r.packet)) (f.place + 1))) (sym side)
+    (put_steps slots v f.place f.bound r.packet (writes_hand f v (load_of m.1) t side is_state (t.knows half)) (t.half half))))
 
 pub release_allowed : (slots id : ℕ) (f : Fields) (m : Me Lying View) (next : ℕ) → IsEnd f m → f.side ≡ Rx → f.state ≡ Up → f.half ≡ true → next ≡ f.place + 1
     → Allows Rule slots id m 2 (λ _. next) (λ _. TakePlay (step slots 2 next 0 none) m next)
@@ -204,9 +185,9 @@ release_allowed slots id f m next inv side is_state half next_is =
     let p = reads_packet f v (load_of m.1) t reads (t.knows half) (t.half half) in
     subst (λ w. Allows Rule slots id m 2 (λ _. w) (λ _. TakePlay (step slots 2 w 0 none) m w)) (sym next_is)
     (allowed slots id f m taken 2 (λ _. f.place + 1) (λ u _. TakePlay (step slots 2 (f.place + 1) 0 none) u (f.place + 1)) inv
-      (taken_half f v (load_of m.1) t reads half)
-      (subst (λ x. Steps x v taken 2 (λ _. f.place + 1) (λ _. TakePlay (step slots 2 (f.place + 1) 0 none) (One x v, out_of v.hand taken) (f.place + 1))) (sym side)
-        (take_steps slots v f.place f.bound p.0 (t.state ∙ is_state) (reads_hand f v (load_of m.1) t reads (t.knows half) ∙ ap (Reading f.place f.bound) p.1) (t.half half))))
+    (taken_half f v (load_of m.1) t reads half)
+    (subst (λ x. Steps x v taken 2 (λ _. f.place + 1) (λ _. TakePlay (step slots 2 (f.place + 1) 0 none) (One x v, out_of v.hand taken) (f.place + 1))) (sym side)
+    (take_steps slots v f.place f.bound p.0 (t.state ∙ is_state) (reads_hand f v (load_of m.1) t reads (t.knows half) ∙ ap (Reading f.place f.bound) p.1) (t.half half))))
 
 pub drain_allowed : (slots id : ℕ) (f : Fields) (m : Me Lying View) (next : ℕ) → IsEnd f m → f.state ≡ Closing → f.half ≡ true → next ≡ f.place + 1
     → Allows Rule slots id m 2 (λ _. next) (λ _. DrainPlay (step slots 2 next 0 none) m next)
@@ -217,5 +198,5 @@ drain_allowed slots id f m next inv is_state half next_is =
     let p = reads_packet f v (load_of m.1) t reads (t.knows half) (t.half half) in
     subst (λ w. Allows Rule slots id m 2 (λ _. w) (λ _. DrainPlay (step slots 2 w 0 none) m w)) (sym next_is)
     (allowed slots id f m taken 2 (λ _. f.place + 1) (λ u _. DrainPlay (step slots 2 (f.place + 1) 0 none) u (f.place + 1)) inv
-      (taken_half f v (load_of m.1) t reads half)
-      (drain_steps slots f.side v f.place f.bound p.0 (t.state ∙ is_state) (reads_hand f v (load_of m.1) t reads (t.knows half) ∙ ap (Reading f.place f.bound) p.1) (t.half half)))
+    (taken_half f v (load_of m.1) t reads half)
+    (drain_steps slots f.side v f.place f.bound p.0 (t.state ∙ is_state) (reads_hand f v (load_of m.1) t reads (t.knows half) ∙ ap (Reading f.place f.bound) p.1) (t.half half)))

@@ -1,37 +1,28 @@
 -- The steps on the ring's words keep the rule, and tell what they should.
-use Rattle.std.proofs.Common.{◌≡◌, ◌≢◌, ◌<◌, ◌≤◌, ◌⊎◌, inl, inr, ⊎_elim, ℕ, zero, suc, ◌+◌, ◌-◌, ◌*◌, ◌%◌, ◌^◌, min, Bool, true, false, eqb, eq-eqb, ne_eqb, Option, List, [], ◌∷◌, ◌++◌, length, drop, set, Some, None, IsSome, refl, sym, ap, ap₂, ◌∙◌, subst, arith, slice_get}
+use Rattle.std.proofs.Common.{◌≡◌, ◌<◌, ◌≤◌, inl, inr, ℕ, zero, suc, ◌+◌, ◌-◌, ◌%◌, ◌^◌, min, Bool, true, false, Option, List, [], ◌∷◌, ◌++◌, length, drop, Some, IsSome, refl, sym, ap, ap₂, ◌∙◌, subst, arith, slice_get}
 use Rattle.std.specs.Prelude.{slice_set, slice_index, unwrap_or}
-use Rattle.std.proofs.lemmas.Bool.{true≢false, or_parts, lt-ltb}
+use Rattle.std.proofs.lemmas.Bool.{lt-ltb}
 use Rattle.std.proofs.lemmas.List.{append-nil, length-append}
-use Rattle.std.proofs.lemmas.Option.{slice_get_read, slice_get_within, slice_get-get_or}
-use mathlib.Core.Option.{none, some, some-ne-none, some-injective}
-use lib.ListN.{get_elem?}
-use prog.Atomic.{either}
-use Rattle.atomic_table.specs.Table.{State, Me, step, Act, keeps, stepped, Valid, carried_after, Allows}
-use Rattle.atomic_table.proofs.Lists.{exchanged}
+use mathlib.Core.Option.{none}
+use Rattle.atomic_table.specs.Table.{State, step}
 use Rattle.sn_core.specs.declared.events.Side.{Side}
 use Rattle.sn_core.specs.declared.events.Side.TheVariants.{Tx, Rx}
 use Rattle.sn_packet.specs.Packet.{PacketState}
-use Rattle.sn_interlink.specs.declared.entry.LaneEntry.{LaneEntry}
-use Rattle.sn_interlink.specs.declared.view.EndState.{EndState}
-use Rattle.sn_interlink.specs.declared.view.EndState.TheVariants.{Out, Up, Closing}
+use Rattle.sn_interlink.specs.declared.view.EndState.TheVariants.{Up, Closing}
 use Rattle.sn_interlink.specs.declared.view.Hand.{Hand}
-use Rattle.sn_interlink.specs.declared.view.Hand.TheVariants.{Nothing, Writing, Reading}
+use Rattle.sn_interlink.specs.declared.view.Hand.TheVariants.{Writing, Reading}
 use Rattle.sn_interlink.specs.declared.view.Known.{Known}
 use Rattle.sn_interlink.specs.declared.view.View.{View}
-use Rattle.sn_interlink.specs.declared.view.View.TheVariants.{Fresh, One, Both, Spent}
-use Rattle.sn_interlink.specs.Course.{Status, absent, up, gone, closing, Course, other, mine, with_status, is_up, is_closing, is_on, is_shut, field, word_of, state_of, field_in, unit, came_word, is_down, leaves, left_state, state_after, Deed, looks, attaches, misses, detaches, resets, sees, rooms, puts, takes, drains, after, Comes, Misses, Goes, Frees, Looks, Puts, AreNext, Takes, Drains, Enabled, History, course, Legal, Sane, log_of, entries_of, if_own}
-use Rattle.sn_interlink.specs.Rule.{Lying, first_of, bound_of, lies_in, Lends, reads_as, MayWrite, MayRead, HandOk, ReadsAt, PlaceOk, Fits, Ends, of_side, with_side, Stage, whole, parted, joined, views_of, words_of, Meets, Rule}
-use Rattle.sn_interlink.specs.Moves.{Half, idle, laid, taken, lends, load_of, if_out, out_of, turn, seat_of, moved, stayed, Left}
-use Rattle.sn_interlink.specs.Plays.{known_of, own_of, packet_of, turned_to, told, InRing, GoesOn, look_deed_as, look_deed, looked_at, kept_place, came_up, missed, place_left, went, freed, synced_at, room_by, roomed, far_roomed, saw, published, released, place_drained, drained, LookPlay, AttachPlay, DetachPlay, ResetPlay, SyncPlay, RoomPlay, FarRoomPlay, SeePlay, PutPlay, TakePlay, DrainPlay}
-use Rattle.sn_interlink.proofs.Machine.{sane, is_one, other_up, came_is, gone_is, down_is, shut_away, drop_first}
-use Rattle.sn_interlink.proofs.Hands.{side_differs, on_up}
+use Rattle.sn_interlink.specs.declared.view.View.TheVariants.{One}
+use Rattle.sn_interlink.specs.Course.{up, closing, Course, mine, is_closing, is_on, word_of, state_of, Deed, looks, sees, rooms, puts, takes, drains, after, AreNext, History, course, log_of}
+use Rattle.sn_interlink.specs.Rule.{Lying, first_of, bound_of, lies_in, reads_as, MayWrite, MayRead, HandOk, ReadsAt, PlaceOk, Fits, Ends, of_side, parted, words_of, Meets}
+use Rattle.sn_interlink.specs.Moves.{Half, idle, laid, taken, lends, load_of, if_out, out_of}
+use Rattle.sn_interlink.specs.Plays.{own_of, packet_of, InRing, synced_at, room_by, roomed, far_roomed, saw, published, released, place_drained, drained, SyncPlay, RoomPlay, FarRoomPlay, SeePlay, PutPlay, TakePlay, DrainPlay}
+use Rattle.sn_interlink.proofs.Machine.{sane, drop_first}
+use Rattle.sn_interlink.proofs.Hands.{on_up}
 use Rattle.sn_interlink.proofs.Effects.{own_fits, kind, kind_still, back_as_it_went, back_with_packet, back_emptied}
-
 use Rattle.sn_interlink.specs.Ends.{is_on_state}
-use Rattle.sn_interlink.proofs.StateSteps.{fits_still}
-use Rattle.sn_interlink.proofs.Steps.{Turns, Rests, Steps, own_entries, log_more, up_if, closing_if, away_if, mine_with, mine_same, mine_freed, puts_with, read_with, words_with, left_of, word_at, put_at, read_at}
-
+use Rattle.sn_interlink.proofs.Steps.{Steps, log_more, up_if, closing_if, mine_same, put_at, read_at}
 
 -- a place that is there holds something
 pub something_at : {A : Type 0} (xs : List A) (i : ℕ) → i < length xs → IsSome (slice_get xs i)
@@ -145,8 +136,12 @@ far_room_steps slots v is_state s hist k m is bound =
           })
           (same_words s hist k 2 m)
           (back_as_it_went s hist k Tx c m refl refl);
-      told = (z, ap (λ x. (One Tx (far_roomed n z x), out_of (far_roomed n z x).hand idle)) is, is_read s hist k v m is,
-          λ lt. something_at c.puts n (let e : own_of v ≡ own_of k.tx = ap own_of (sym is) in omega (arith, lt, own, e)));
+      told = (
+        z,
+        ap (λ x. (One Tx (far_roomed n z x), out_of (far_roomed n z x).hand idle)) is,
+        is_read s hist k v m is,
+        λ lt. something_at c.puts n (let e : own_of v ≡ own_of k.tx = ap own_of (sym is) in omega (arith, lt, own, e)),
+      );
     })
 
 -- the receiver sees packets
@@ -176,9 +171,12 @@ see_steps slots v own is_state place_is s hist k m is bound =
           })
           (same_words s hist k 1 m)
           (back_as_it_went s hist k Rx c m refl refl);
-      told = (z, ap (λ x. (One Rx (saw n z x), out_of (saw n z x).hand idle)) is,
-          record { order = omega (arith, mine_own, found, clean.order); most = omega (arith, mine_own, found, clean.most); below = omega (arith, found, clean.below) },
-          λ lt. something_at c.puts (own_of k.rx) (omega (arith, lt, mine_own, here, found)));
+      told = (
+        z,
+        ap (λ x. (One Rx (saw n z x), out_of (saw n z x).hand idle)) is,
+        record { order = omega (arith, mine_own, found, clean.order); most = omega (arith, mine_own, found, clean.most); below = omega (arith, found, clean.below) },
+        λ lt. something_at c.puts (own_of k.rx) (omega (arith, lt, mine_own, here, found)),
+      );
     })
 
 -- the transmitter publishes what it laid
@@ -257,8 +255,11 @@ take_steps slots v own limit p is_state hand_is lt s hist k m is bound =
           })
           (ap (λ ws. slice_set ws 2 (own + 1)) m.words ∙ ap (λ x. word_of c ∷ length c.puts ∷ x ∷ []) (omega (arith, ok.next)))
           (back_emptied s hist k Rx (after Rx d c) m (lt-ltb (first_of k.rx.hand) (bound_of k.rx.hand) (omega (arith, first, last, lt))) (first ∙ ok.next) refl refl);
-      told = (z, ap (λ x. (One Rx (released z x), out_of (released z x).hand idle)) is,
-          λ l. something_at c.puts (first_of k.rx.hand + 1) (let a = ap first_of hand_is in let b = ap bound_of hand_is in omega (arith, l, a, b, first, ok.most)));
+      told = (
+        z,
+        ap (λ x. (One Rx (released z x), out_of (released z x).hand idle)) is,
+        λ l. something_at c.puts (first_of k.rx.hand + 1) (let a = ap first_of hand_is in let b = ap bound_of hand_is in omega (arith, l, a, b, first, ok.most)),
+      );
     })
 
 -- where a closing end's position is after a drain
@@ -297,6 +298,9 @@ drain_steps slots side v own limit p is_state hand_is lt s hist k m is bound =
           })
           (ap (λ ws. slice_set ws 2 (own + 1)) m.words ∙ ap (λ x. word_of c ∷ length c.puts ∷ x ∷ []) (omega (arith, ok.next)))
           (back_emptied s hist k side (after side d c) m (lt-ltb (first_of u.hand) (bound_of u.hand) (omega (arith, first, last, lt))) (first ∙ ok.next) refl refl);
-      told = (z, ap (λ x. (One side (drained side z x), out_of (drained side z x).hand idle)) is,
-          λ l. something_at c.puts (first_of u.hand + 1) (let a = ap first_of hand_is in let b = ap bound_of hand_is in omega (arith, l, a, b, first, ok.most)));
+      told = (
+        z,
+        ap (λ x. (One side (drained side z x), out_of (drained side z x).hand idle)) is,
+        λ l. something_at c.puts (first_of u.hand + 1) (let a = ap first_of hand_is in let b = ap bound_of hand_is in omega (arith, l, a, b, first, ok.most)),
+      );
     })

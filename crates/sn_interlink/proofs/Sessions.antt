@@ -1,19 +1,19 @@
 -- Sessions: in each what is taken stands before what is drained, and there are as many resets as beginnings.
-use Rattle.std.proofs.Common.{◌≡◌, ◌≢◌, ◌<◌, ◌≤◌, ◌⊎◌, inl, inr, ⊎_elim, ℕ, zero, suc, ◌+◌, ◌-◌, ◌*◌, ◌/◌, Bool, true, false, not, ◌&&◌, ◌||◌, eqb, eq-eqb, ne_eqb, subst₂, Option, List, [], ◌∷◌, ◌++◌, length, drop, Some, None, refl, sym, ap, ap₂, ◌∙◌, subst, arith, slice_get}
+use Rattle.std.proofs.Common.{◌≡◌, ◌<◌, ◌≤◌, ◌⊎◌, inl, inr, ⊎_elim, ℕ, zero, suc, ◌+◌, ◌-◌, ◌*◌, ◌/◌, Bool, true, false, ◌||◌, eqb, eq-eqb, ne_eqb, subst₂, List, [], ◌∷◌, ◌++◌, length, Some, None, refl, sym, ap, ap₂, ◌∙◌, subst, arith, slice_get}
 use Rattle.std.specs.Prelude.{if◌then◌else◌}
-use Rattle.std.proofs.lemmas.Bool.{or_parts, cases_eq}
+use Rattle.std.proofs.lemmas.Bool.{cases_eq}
 use Rattle.std.proofs.lemmas.List.{append-nil, length-append, append_assoc}
-use Rattle.std.proofs.lemmas.Option.{slice_get_past, slice_get_within}
+use Rattle.std.proofs.lemmas.Option.{slice_get_within}
 use Rattle.sn_core.specs.declared.events.Side.{Side}
 use Rattle.sn_core.specs.declared.events.Side.TheVariants.{Tx, Rx}
 use Rattle.sn_packet.specs.Packet.{PacketState}
 use Rattle.sn_interlink.specs.declared.entry.LaneEntry.{LaneEntry}
 use Rattle.sn_interlink.specs.declared.entry.LaneEntry.TheVariants.{Attach, Unattached, Detach, Reset, Seen, Room, Put, Take, Drain}
-use Rattle.sn_interlink.specs.Course.{Status, absent, up, gone, closing, Course, other, mine, is_up, is_closing, is_on, is_shut, field, word_of, leaves, with_status, Deed, looks, attaches, misses, detaches, resets, sees, rooms, puts, takes, drains, after, AreNext, Enabled, History, course, Legal, Sane, ok_pair, entries_of, if_own, log_of}
-use Rattle.sn_interlink.specs.Receipt.{numbered, put_by, taken_by, drained_by, all_by, Way, by_take, by_drain, is_take, is_drain, if_so, chosen, begins_from, Among, BeginsBetween, TakesComeFirst, begun_by, reset_by, total_by, Fifo}
-use Rattle.sn_interlink.proofs.Machine.{sane, slice_get-front, slice_get-last, lt_or_le, field_of_side, shut_away, left_not_absent, up_not_absent}
-use Rattle.sn_interlink.proofs.Hands.{side_differs, on_up, closes, tx_alone, rx_alone}
-use Rattle.sn_interlink.proofs.FirstInFirstOut.{total_by-append, ways_by, length-ways_by, new_ways, ways_of, length_ways, all_put, taken_step, drained_step, all_received}
+use Rattle.sn_interlink.specs.Course.{Status, absent, up, gone, closing, Course, other, mine, is_up, is_closing, is_shut, field, leaves, with_status, Deed, looks, attaches, misses, detaches, resets, sees, rooms, puts, takes, drains, after, Enabled, History, course, Legal, Sane, entries_of, log_of}
+use Rattle.sn_interlink.specs.Receipt.{taken_by, drained_by, Way, by_take, by_drain, is_take, is_drain, begins_from, Among, BeginsBetween, TakesComeFirst, begun_by, reset_by, total_by, Fifo}
+use Rattle.sn_interlink.proofs.Machine.{sane, slice_get-front, slice_get-last, field_of_side, shut_away, up_not_absent}
+use Rattle.sn_interlink.proofs.Hands.{side_differs, closes}
+use Rattle.sn_interlink.proofs.FirstInFirstOut.{total_by-append, ways_by, new_ways, ways_of, length_ways, all_put, taken_step, drained_step, all_received}
 
 -- BEGINNINGS AND RESETS
 
@@ -303,10 +303,10 @@ begin_session : (c : Course) (places : List ℕ) (ways : List Way) → Sane c �
 begin_session c places ways s is_absent long p = record {
   early = λ a m. ⊎_elim (λ e. p.early a (m.0, e)) (λ r. let n = one_at (length c.puts) (m.0 - length places) a r.1 in omega (arith, n, all_read)) (split_at places (length c.puts ∷ []) m.0 a m.1);
   drained = λ i side d. inr (inr (record {
-      place = length c.puts;
-      there = (length places, slice_get-last places (length c.puts) (length places) refl);
-      after = let w = slice_get_within ways i (by_drain side) d in omega (arith, w, long, all_read);
-    }));
+    place = length c.puts;
+    there = (length places, slice_get-last places (length c.puts) (length places) refl);
+    after = let w = slice_get_within ways i (by_drain side) d in omega (arith, w, long, all_read);
+  }));
   first = λ i j side lt d t. between_more places (length c.puts ∷ []) i j (p.first i j side lt d t);
 }
   where
@@ -316,16 +316,16 @@ begin_session c places ways s is_absent long p = record {
 go_on : (c : Course) (places : List ℕ) (ways : List Way) → is_shut c ≡ false → (c.tx ≡ absent → ⊥) → Parted c places ways → Parted (after Tx (attaches 0) c) (places ++ []) ways
 go_on c places ways open_yet there p = subst (λ l. Parted (after Tx (attaches 0) c) l ways) (sym (append-nil places))
     (parted_still c (after Tx (attaches 0) c) places ways refl
-      (λ i b. ⊎_elim (λ shut. absurd (let f : true ≡ false = sym shut ∙ open_yet in cc)) (⊎_elim (λ a. absurd (there a)) (λ after. inr (inr after))) b) p)
+    (λ i b. ⊎_elim (λ shut. absurd (let f : true ≡ false = sym shut ∙ open_yet in cc)) (⊎_elim (λ a. absurd (there a)) (λ after. inr (inr after))) b) p)
 
 come_tx : (c : Course) (places : List ℕ) (ways : List Way) (word : ℕ) → Sane c → Enabled Tx (attaches word) c → length ways ≡ c.read → Parted c places ways
     → Parted (after Tx (attaches word) c) (places ++ new_starts (attaches word) (length c.puts)) ways
 unfolding new_starts
 come_tx c places ways word s en long p = ⊎_elim
     (λ e. subst (λ b. Parted (after Tx (attaches 0) c) (places ++ ((if b then length c.puts ∷ [] else []) ++ [])) ways) (sym (eq-eqb (word / 4) 0 e))
-        (begin_session c places ways s (absent_if c.tx (sym tx_field ∙ e)) long p))
+    (begin_session c places ways s (absent_if c.tx (sym tx_field ∙ e)) long p))
     (λ ne. subst (λ b. Parted (after Tx (attaches 0) c) (places ++ ((if b then length c.puts ∷ [] else []) ++ [])) ways) (sym (ne_eqb (word / 4) 0 ne))
-        (go_on c places ways en.open_yet (λ a. ne (tx_field ∙ ap field a)) p))
+    (go_on c places ways en.open_yet (λ a. ne (tx_field ∙ ap field a)) p))
     (cases_eq (word / 4) 0)
   where
     tx_field : word / 4 ≡ field c.tx

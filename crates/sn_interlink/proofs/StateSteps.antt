@@ -1,33 +1,24 @@
 -- The steps on the state word keep the rule, and tell what they should.
-use Rattle.std.proofs.Common.{◌≡◌, ◌≢◌, ◌<◌, ◌≤◌, ◌⊎◌, inl, inr, ⊎_elim, ℕ, zero, suc, ◌+◌, ◌-◌, ◌*◌, ◌%◌, ◌^◌, min, Bool, true, false, eqb, eq-eqb, ne_eqb, Option, List, [], ◌∷◌, ◌++◌, length, drop, set, Some, None, IsSome, refl, sym, ap, ap₂, ◌∙◌, subst, arith, slice_get}
+use Rattle.std.proofs.Common.{◌≡◌, ◌≢◌, ◌⊎◌, inl, inr, ℕ, ◌+◌, ◌%◌, ◌^◌, Bool, true, false, eqb, eq-eqb, ne_eqb, Option, [], ◌∷◌, ◌++◌, Some, None, refl, sym, ap, ap₂, ◌∙◌, subst}
 use Rattle.std.specs.Prelude.{slice_set, slice_index}
-use Rattle.std.proofs.lemmas.Bool.{true≢false, or_parts}
-use Rattle.std.proofs.lemmas.Option.{slice_get_read, slice_get_within, slice_get-get_or}
-use mathlib.Core.Option.{none, some, some-ne-none, some-injective}
-use lib.ListN.{get_elem?}
+use mathlib.Core.Option.{none}
 use prog.Atomic.{either}
-use Rattle.atomic_table.specs.Table.{State, Me, step, Act, keeps, stepped, Valid, carried_after, Allows}
+use Rattle.atomic_table.specs.Table.{Me, step}
 use Rattle.atomic_table.proofs.Lists.{exchanged}
 use Rattle.sn_core.specs.declared.events.Side.{Side}
 use Rattle.sn_core.specs.declared.events.Side.TheVariants.{Tx, Rx}
-use Rattle.sn_packet.specs.Packet.{PacketState}
-use Rattle.sn_interlink.specs.declared.entry.LaneEntry.{LaneEntry}
-use Rattle.sn_interlink.specs.declared.view.EndState.{EndState}
 use Rattle.sn_interlink.specs.declared.view.EndState.TheVariants.{Out, Up, Closing}
-use Rattle.sn_interlink.specs.declared.view.Hand.{Hand}
-use Rattle.sn_interlink.specs.declared.view.Hand.TheVariants.{Nothing, Writing, Reading}
+use Rattle.sn_interlink.specs.declared.view.Hand.TheVariants.{Reading}
 use Rattle.sn_interlink.specs.declared.view.Known.{Known}
 use Rattle.sn_interlink.specs.declared.view.View.{View}
-use Rattle.sn_interlink.specs.declared.view.View.TheVariants.{Fresh, One, Both, Spent}
-use Rattle.sn_interlink.specs.Course.{Status, absent, up, gone, closing, Course, other, mine, with_status, is_up, is_closing, is_on, is_shut, field, word_of, state_of, field_in, unit, came_word, is_down, leaves, left_state, state_after, Deed, looks, attaches, misses, detaches, resets, sees, rooms, puts, takes, drains, after, Comes, Misses, Goes, Frees, Looks, Puts, AreNext, Takes, Drains, Enabled, History, course, Legal, Sane, log_of, entries_of, if_own}
-use Rattle.sn_interlink.specs.Rule.{Lying, first_of, bound_of, lies_in, Lends, reads_as, MayWrite, MayRead, HandOk, ReadsAt, PlaceOk, Fits, Ends, of_side, with_side, Stage, whole, parted, joined, views_of, words_of, Meets, Rule}
-use Rattle.sn_interlink.specs.Moves.{Half, idle, laid, taken, lends, load_of, out_of, turn, seat_of, moved, stayed, Left}
-use Rattle.sn_interlink.specs.Plays.{known_of, own_of, packet_of, turned_to, told, InRing, GoesOn, look_deed_as, look_deed, looked_at, kept_place, came_up, missed, place_left, went, freed, synced_at, room_by, roomed, far_roomed, saw, published, released, place_drained, drained, LookPlay, AttachPlay, DetachPlay, ResetPlay, SyncPlay, RoomPlay, FarRoomPlay, SeePlay, PutPlay, TakePlay, DrainPlay}
-use Rattle.sn_interlink.proofs.Machine.{sane, is_one, other_up, came_is, gone_is, down_is, shut_away, drop_first}
-use Rattle.sn_interlink.proofs.Hands.{side_differs, on_up}
-use Rattle.sn_interlink.proofs.Effects.{own_fits, kind, kind_still, back_as_it_went, back_with_packet, back_emptied}
-
-use Rattle.sn_interlink.proofs.Steps.{Turns, Rests, Steps, own_entries, log_more, up_if, closing_if, away_if, mine_with, mine_same, mine_freed, puts_with, read_with, words_with, left_of, word_at, put_at, read_at}
+use Rattle.sn_interlink.specs.declared.view.View.TheVariants.{One}
+use Rattle.sn_interlink.specs.Course.{absent, up, closing, Course, other, mine, with_status, is_up, word_of, state_of, field_in, unit, came_word, is_down, leaves, left_state, Deed, attaches, misses, detaches, resets, after, Enabled, History, course, Sane, entries_of}
+use Rattle.sn_interlink.specs.Rule.{Lying, MayRead, HandOk, PlaceOk, Fits, of_side, parted, words_of}
+use Rattle.sn_interlink.specs.Moves.{Half, idle, out_of}
+use Rattle.sn_interlink.specs.Plays.{look_deed_as, look_deed, looked_at, kept_place, came_up, missed, place_left, went, freed, LookPlay, AttachPlay, DetachPlay, ResetPlay}
+use Rattle.sn_interlink.proofs.Machine.{sane, other_up, came_is, gone_is, down_is, shut_away}
+use Rattle.sn_interlink.proofs.Effects.{own_fits, kind, kind_still, back_as_it_went}
+use Rattle.sn_interlink.proofs.Steps.{Turns, Rests, Steps, log_more, up_if, closing_if, away_if, mine_with, mine_freed, puts_with, read_with, words_with, left_of, word_at}
 
 -- a load of the state word
 look_same : (b : Bool) (side : Side) (n : ℕ) (c : Course) → after side (look_deed_as b n) c ≡ c

@@ -1,31 +1,21 @@
 -- Each step of an end keeps the rule, and tells what it should.
-use Rattle.std.proofs.Common.{◌≡◌, ◌≢◌, ◌<◌, ◌≤◌, ◌⊎◌, inl, inr, ⊎_elim, ℕ, zero, suc, ◌+◌, ◌-◌, ◌*◌, ◌%◌, ◌^◌, min, Bool, true, false, eqb, eq-eqb, ne_eqb, Option, List, [], ◌∷◌, ◌++◌, length, drop, set, Some, None, IsSome, refl, sym, ap, ap₂, ◌∙◌, subst, arith, slice_get}
-use Rattle.std.specs.Prelude.{slice_set, slice_index}
-use Rattle.std.proofs.lemmas.Bool.{true≢false, or_parts}
-use Rattle.std.proofs.lemmas.Option.{slice_get_read, slice_get_within, slice_get-get_or}
-use mathlib.Core.Option.{none, some, some-ne-none, some-injective}
+use Rattle.std.proofs.Common.{◌≡◌, ◌<◌, ◌⊎◌, ⊎_elim, ℕ, zero, suc, Bool, true, false, List, [], ◌∷◌, ◌++◌, length, refl, sym, ap, ap₂, ◌∙◌, subst}
+use Rattle.std.specs.Prelude.{slice_index}
+use mathlib.Core.Option.{some, some-ne-none, some-injective}
 use lib.ListN.{get_elem?}
-use prog.Atomic.{either}
-use Rattle.atomic_table.specs.Table.{State, Me, step, Act, keeps, stepped, Valid, carried_after, Allows}
-use Rattle.atomic_table.proofs.Lists.{exchanged}
+use Rattle.atomic_table.specs.Table.{State, Me, Act, keeps, stepped, Valid, carried_after, Allows}
 use Rattle.sn_core.specs.declared.events.Side.{Side}
 use Rattle.sn_core.specs.declared.events.Side.TheVariants.{Tx, Rx}
 use Rattle.sn_packet.specs.Packet.{PacketState}
 use Rattle.sn_interlink.specs.declared.entry.LaneEntry.{LaneEntry}
 use Rattle.sn_interlink.specs.declared.view.EndState.{EndState}
 use Rattle.sn_interlink.specs.declared.view.EndState.TheVariants.{Out, Up, Closing}
-use Rattle.sn_interlink.specs.declared.view.Hand.{Hand}
-use Rattle.sn_interlink.specs.declared.view.Hand.TheVariants.{Nothing, Writing, Reading}
 use Rattle.sn_interlink.specs.declared.view.Known.{Known}
 use Rattle.sn_interlink.specs.declared.view.View.{View}
 use Rattle.sn_interlink.specs.declared.view.View.TheVariants.{Fresh, One, Both, Spent}
-use Rattle.sn_interlink.specs.Course.{Status, absent, up, gone, closing, Course, other, mine, with_status, is_up, is_closing, is_on, is_shut, field, word_of, state_of, field_in, unit, came_word, is_down, leaves, left_state, state_after, Deed, looks, attaches, misses, detaches, resets, sees, rooms, puts, takes, drains, after, Comes, Misses, Goes, Frees, Looks, Puts, AreNext, Takes, Drains, Enabled, History, course, Legal, Sane, log_of, entries_of, if_own}
-use Rattle.sn_interlink.specs.Rule.{Lying, first_of, bound_of, lies_in, Lends, reads_as, MayWrite, MayRead, HandOk, ReadsAt, PlaceOk, Fits, Ends, of_side, with_side, Stage, whole, parted, joined, views_of, words_of, Meets, Rule}
-use Rattle.sn_interlink.specs.Moves.{Half, idle, laid, taken, lends, load_of, out_of, turn, seat_of, moved, stayed, Left}
-use Rattle.sn_interlink.specs.Plays.{known_of, own_of, packet_of, turned_to, told, InRing, GoesOn, look_deed_as, look_deed, looked_at, kept_place, came_up, missed, place_left, went, freed, synced_at, room_by, roomed, far_roomed, saw, published, released, place_drained, drained, LookPlay, AttachPlay, DetachPlay, ResetPlay, SyncPlay, RoomPlay, FarRoomPlay, SeePlay, PutPlay, TakePlay, DrainPlay}
-use Rattle.sn_interlink.proofs.Machine.{sane, is_one, other_up, came_is, gone_is, down_is, shut_away, drop_first}
-use Rattle.sn_interlink.proofs.Hands.{side_differs, on_up}
-use Rattle.sn_interlink.proofs.Effects.{own_fits, kind, kind_still, back_as_it_went, back_with_packet, back_emptied}
+use Rattle.sn_interlink.specs.Course.{Status, absent, up, gone, closing, Course, mine, with_status, is_up, word_of, state_of, leaves, left_state, Deed, History, course, log_of, entries_of, if_own}
+use Rattle.sn_interlink.specs.Rule.{Lying, Ends, of_side, with_side, Stage, whole, parted, joined, views_of, words_of, Meets, Rule}
+use Rattle.sn_interlink.specs.Moves.{Half, idle, out_of, turn, seat_of, stayed, Left}
 
 -- THE SEAT OF AN END
 
@@ -131,7 +121,7 @@ allow slots id side v half i f tells steps s r homes at bound =
     let here = seated s id side v r at in
     let n : ℕ = slice_index s.words i in
     let pick : Picks s (seat_of side) side (of_side side here.k) half i (f n) (tells n) =
-        ⊎_elim (picked_turn s here.hist here.k side half i (f n) (tells n)) (picked_rest s here.hist here.k side half i (f n) (tells n)) (steps s here.hist here.k here.meets here.known bound) in
+    ⊎_elim (picked_turn s here.hist here.k side half i (f n) (tells n)) (picked_rest s here.hist here.k side half i (f n) (tells n)) (steps s here.hist here.k here.meets here.known bound) in
     subst (λ (x : ℕ × Known). Picks s x.0 side x.1 half i (f n) (tells n)) (λ j. (sym here.id_is j, here.known j)) pick
 
 -- WORDS AND STATUSES

@@ -1,18 +1,15 @@
 -- The turn of slots at a step: what is given back and taken, and that the slots stay right.
-use Rattle.std.proofs.Common.{◌≡◌, ◌≢◌, ◌<◌, ◌≤◌, ◌⊎◌, inl, inr, ⊎_elim, ℕ, zero, suc, ◌+◌, ◌%◌, ◌^◌, Bool, true, false, ltb, Option, List, [], ◌∷◌, ◌++◌, length, set, Some, None, refl, sym, ap, ◌∙◌, subst, arith, slice_get}
+use Rattle.std.proofs.Common.{◌≡◌, ◌≢◌, ◌<◌, ◌≤◌, ℕ, ◌+◌, ◌%◌, Bool, true, false, List, length, set, refl, sym, ◌∙◌, subst, arith}
 use Rattle.std.proofs.lemmas.Bool.{ltb-true, ltb-false, true≢false}
-use Rattle.std.proofs.lemmas.Bool.Decides.{Decides-ltb}
 use Rattle.std.proofs.lemmas.List.{length-set}
 use mathlib.Core.Option.{none, some}
 use mathlib.Core.Option as maybe
-use native.Mathlib.Decide.{dec_le, dec_lt}
+use native.Mathlib.Decide.{dec_le}
 use lib.ListN.{get_elem?}
-use Rattle.atomic_table.specs.Table.{Act, keeps, takes, gives, chain, homes_after, carried_after, Valid, put_back}
+use Rattle.atomic_table.specs.Table.{chain, homes_after, carried_after, Valid}
 use Rattle.atomic_table.proofs.Lists.{one_turn, set_here, set_else}
-use Rattle.sn_packet.specs.Packet.{PacketState}
 use Rattle.sn_interlink.specs.declared.view.Hand.{Hand}
-use Rattle.sn_interlink.specs.Course.{Course}
-use Rattle.sn_interlink.specs.Rule.{Lying, first_of, bound_of, lies_in, Lends}
+use Rattle.sn_interlink.specs.Rule.{Lying, first_of, bound_of, Lends}
 use Rattle.sn_interlink.specs.Moves.{if_out, if_gives, if_takes, lends}
 
 -- the slots after one was given back, and after one was taken

@@ -1,5 +1,5 @@
 -- What a call makes of an end, by its answer.
-use Rattle.std.specs.Prelude.{◌≡◌, ◌≢◌, ◌<◌, ◌+◌, ℕ, true, false, Bool, ◌==◌, Option, Some, None}
+use Rattle.std.specs.Prelude.{◌≡◌, ◌≢◌, ◌<◌, ℕ, true, false, Bool, ◌==◌, Option, Some, None}
 use Rattle.sn_packet.specs.Packet.{PacketState}
 use Rattle.sn_interlink.specs.declared.answers.Attached.{Attached}
 use Rattle.sn_interlink.specs.declared.answers.Attached.TheVariants.{Up, Again}

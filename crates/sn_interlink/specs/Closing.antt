@@ -1,5 +1,5 @@
 -- The receipt of a closed interlink as contracts see it, and what an end leaves to it.
-use Rattle.std.specs.Prelude.{◌≡◌, List, [], ◌∷◌}
+use Rattle.std.specs.Prelude.{◌≡◌, List, []}
 use Rattle.atomic_table.specs.Table.{Me}
 use Rattle.sn_interlink.specs.declared.entry.LaneEntry.{LaneEntry}
 use Rattle.sn_interlink.specs.declared.receipt.LaneReceipt.{LaneReceipt}

@@ -1,5 +1,5 @@
 -- An end of an interlink as contracts see it, and what each call makes of it.
-use Rattle.std.specs.Prelude.{◌≡◌, ◌≢◌, ◌≤◌, ◌<◌, ℕ, ◌+◌, ◌-◌, ◌^◌, Bool, true, false, not, ◌&&◌, List, [], ◌∷◌, ◌++◌, map, Option, Some, None, IsSome, unwrap_or, option_to_list}
+use Rattle.std.specs.Prelude.{◌≡◌, ◌≤◌, ◌<◌, ℕ, ◌+◌, ◌-◌, ◌^◌, Bool, true, false, List, [], ◌∷◌, ◌++◌, map, Option, Some, None, IsSome, unwrap_or, option_to_list}
 use Rattle.atomic_table.specs.Table.{Me}
 use Rattle.atomic_table.specs.Seated.{TableId}
 use Rattle.sn_core.specs.declared.events.Side.{Side}
@@ -17,7 +17,7 @@ use Rattle.sn_interlink.specs.declared.view.View.TheVariants.{One}
 use Rattle.sn_interlink.specs.Course.{state_after, entries_of}
 use Rattle.sn_interlink.specs.Rule.{Lying, lies_in}
 use Rattle.sn_interlink.specs.Moves.{Half, idle, laid, taken, out_of, load_of}
-use Rattle.sn_interlink.specs.Plays.{known_of, look_deed, kept_place, room_by, tx_part, rx_part}
+use Rattle.sn_interlink.specs.Plays.{known_of, look_deed, room_by, tx_part, rx_part}
 
 -- which interlink it is
 abbrev pub LaneId : Type 0

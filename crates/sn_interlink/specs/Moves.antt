@@ -1,7 +1,5 @@
 -- What a step of an end does to the table: which slots are out with it before and after.
-use Rattle.std.specs.Prelude.{◌≡◌, ℕ, ◌+◌, ◌%◌, Bool, true, false, List, [], ◌∷◌, Option, Some, None, nat_lt, slice_set}
-use mathlib.Core.Option.{none, some}
-use mathlib.Core.Option as maybe
+use Rattle.std.specs.Prelude.{◌≡◌, ℕ, ◌%◌, Bool, true, false, List, [], ◌∷◌, Some, None, nat_lt}
 use Rattle.atomic_table.specs.Table.{State, Act, keeps, takes, gives, chain, stepped, Valid, carried_after}
 use Rattle.sn_core.specs.declared.events.Side.{Side}
 use Rattle.sn_core.specs.declared.events.Side.TheVariants.{Tx, Rx}

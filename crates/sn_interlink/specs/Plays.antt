@@ -1,5 +1,5 @@
 -- What an end knows after each step, and what the step tells its caller.
-use Rattle.std.specs.Prelude.{◌≡◌, ◌≢◌, ◌≤◌, ◌<◌, ℕ, ◌+◌, ◌-◌, ◌^◌, min, Bool, true, false, List, [], ◌∷◌, ◌++◌, Option, Some, None, IsSome, unwrap_or}
+use Rattle.std.specs.Prelude.{◌≡◌, ◌≢◌, ◌≤◌, ◌<◌, ℕ, ◌+◌, ◌-◌, ◌^◌, min, Bool, true, false, [], ◌∷◌, ◌++◌, Option, Some, None, IsSome, unwrap_or}
 use Rattle.atomic_table.specs.Table.{Me, Step}
 use Rattle.sn_core.specs.declared.events.Side.{Side}
 use Rattle.sn_core.specs.declared.events.Side.TheVariants.{Tx, Rx}
@@ -7,7 +7,6 @@ use Rattle.sn_packet.specs.Packet.{PacketState, no_packet}
 use Rattle.sn_interlink.specs.declared.entry.LaneEntry.TheVariants.{Attach, Unattached, Detach, Reset, Seen, Room, Put, Take, Drain}
 use Rattle.sn_interlink.specs.declared.view.EndState.{EndState}
 use Rattle.sn_interlink.specs.declared.view.EndState.TheVariants.{Out, Up, Closing}
-use Rattle.sn_interlink.specs.declared.view.Hand.{Hand}
 use Rattle.sn_interlink.specs.declared.view.Hand.TheVariants.{Nothing, Writing, Reading}
 use Rattle.sn_interlink.specs.declared.view.Known.{Known}
 use Rattle.sn_interlink.specs.declared.view.View.{View}

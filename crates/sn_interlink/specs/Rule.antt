@@ -1,5 +1,5 @@
 -- The rule of an interlink's table: one history leads to its words, slots and views.
-use Rattle.std.specs.Prelude.{◌≡◌, ◌≤◌, ◌<◌, ℕ, ◌+◌, ◌%◌, ◌^◌, Bool, true, false, List, [], ◌∷◌, length, Option, Some, None, slice_get}
+use Rattle.std.specs.Prelude.{◌≡◌, ◌≤◌, ◌<◌, ℕ, ◌+◌, ◌%◌, ◌^◌, Bool, true, List, [], ◌∷◌, length, Option, Some, None, slice_get}
 use mathlib.Core.Option.{some}
 use mathlib.Core.Option as maybe
 use lib.ListN.{get_elem?}
@@ -13,7 +13,7 @@ use Rattle.sn_interlink.specs.declared.view.Hand.TheVariants.{Nothing, Writing, 
 use Rattle.sn_interlink.specs.declared.view.Known.{Known}
 use Rattle.sn_interlink.specs.declared.view.View.{View}
 use Rattle.sn_interlink.specs.declared.view.View.TheVariants.{Fresh, One, Both, Spent}
-use Rattle.sn_interlink.specs.Course.{Status, up, closing, Course, mine, is_up, is_closing, is_on, word_of, state_of, History, course, Legal, log_of}
+use Rattle.sn_interlink.specs.Course.{Status, up, closing, Course, mine, is_closing, is_on, word_of, state_of, History, course, Legal, log_of}
 
 -- what lies in a slot: a packet, or nothing
 abbrev pub Lying : Type 0

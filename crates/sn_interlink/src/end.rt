@@ -13,7 +13,10 @@ ghost use Rattle.sn_interlink.specs.Closing.{IsSeatOf};
 
 use crate::answers::{Attached, Detached};
 use crate::interlink::{Interlink, PLACES, READ, STATE, WRITE};
-use crate::plays::{ComesUp, Goes, LooksAt, Publishes, Releases, ReleasesDrained, SeesPackets, SeesRest, SeesRoom, SetsFree, Syncs};
+use crate::plays::{
+    ComesUp, Goes, LooksAt, Publishes, Releases, ReleasesDrained, SeesPackets, SeesRest, SeesRoom,
+    SetsFree, Syncs,
+};
 use crate::view::{EndState, RingSeat};
 use sn_core::Side;
 use sn_packet::Packet;
@@ -78,7 +81,11 @@ fn left_state(side: Side, word: u64) -> EndState
         Side::Tx => word % 4,
         Side::Rx => word / 4,
     };
-    if other == 1 { EndState::Out } else { EndState::Closing }
+    if other == 1 {
+        EndState::Out
+    } else {
+        EndState::Closing
+    }
 }
 
 fn is_transmitter(side: Side) -> bool
@@ -110,7 +117,11 @@ fn room_of(own: u64, read: u64) -> u32
 {
     let free = PLACES as u64 - 1 - (own - read);
     let left = POSITIONS - own;
-    if left < free { left as u32 } else { free as u32 }
+    if left < free {
+        left as u32
+    } else {
+        free as u32
+    }
 }
 
 /// The slot of a position.
@@ -202,7 +213,10 @@ impl End {
         ensures step { AttachStep seen self.old result self.new }
     {
         let new = up_word(self.side, seen);
-        let found = lane.table.shared.compare_exchange::<ComesUp>(&mut self.seat, STATE, seen, new);
+        let found = lane
+            .table
+            .shared
+            .compare_exchange::<ComesUp>(&mut self.seat, STATE, seen, new);
         if found != seen {
             return Attached::Again(found);
         }
@@ -219,7 +233,10 @@ impl End {
         ensures step { DetachStep self.old result self.new }
     {
         let added = unit_of(self.side);
-        let word = lane.table.shared.fetch_add::<Goes>(&mut self.seat, STATE, added);
+        let word = lane
+            .table
+            .shared
+            .fetch_add::<Goes>(&mut self.seat, STATE, added);
         let left = left_state(self.side, word);
         self.state = left;
         self.loaded = false;
@@ -238,7 +255,9 @@ impl End {
         requires idle { self.old.half ≡ false }
         ensures step { self.new ≡ sets_free self.old }
     {
-        lane.table.shared.store::<SetsFree>(&mut self.seat, STATE, 0);
+        lane.table
+            .shared
+            .store::<SetsFree>(&mut self.seat, STATE, 0);
         self.state = EndState::Out;
         self.loaded = false;
         self.synced = is_transmitter(self.side);
@@ -330,7 +349,11 @@ impl End {
     {
         packet.up();
         let slot = slot_of(self.place);
-        match lane.table.shared.exchange(&mut self.seat, slot, Some(packet)) {
+        match lane
+            .table
+            .shared
+            .exchange(&mut self.seat, slot, Some(packet))
+        {
             None => (),
             Some(_) => unreachable!(),
         }
@@ -347,7 +370,9 @@ impl End {
     {
         let place = self.place;
         let next = place + 1;
-        lane.table.shared.store::<Publishes>(&mut self.seat, WRITE, next);
+        lane.table
+            .shared
+            .store::<Publishes>(&mut self.seat, WRITE, next);
         self.place = next;
         self.half = false;
         place
@@ -394,7 +419,9 @@ impl End {
         ensures step { self.new ≡ releases self.old }
     {
         let next = self.place + 1;
-        lane.table.shared.store::<Releases>(&mut self.seat, READ, next);
+        lane.table
+            .shared
+            .store::<Releases>(&mut self.seat, READ, next);
         self.place = next;
         self.half = false;
     }
@@ -424,7 +451,9 @@ impl End {
         ensures step { self.new ≡ releases self.old }
     {
         let next = self.place + 1;
-        lane.table.shared.store::<ReleasesDrained>(&mut self.seat, READ, next);
+        lane.table
+            .shared
+            .store::<ReleasesDrained>(&mut self.seat, READ, next);
         self.place = next;
         self.half = false;
     }

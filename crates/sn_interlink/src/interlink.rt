@@ -2,6 +2,7 @@
 
 ghost use Rattle.std.specs.Prelude.{◌≡◌, IfOk};
 ghost use Rattle.sn_core.specs.declared.events.Side.TheVariants.{Tx, Rx};
+ghost use Rattle.sn_interlink.specs.Course.{is_down};
 ghost use Rattle.sn_interlink.specs.Ends.{new_lane_end};
 
 use crate::end::End;
@@ -18,7 +19,9 @@ pub(crate) const PLACES: usize = 1024;
 
 /// Where a table has the state word, the next position to put, and the next position to read.
 pub(crate) const STATE: usize = 0;
+
 pub(crate) const WRITE: usize = 1;
+
 pub(crate) const READ: usize = 2;
 
 /// A ring of packets from one worker to another, which the two share. A contract sees which interlink it is.
@@ -36,6 +39,13 @@ impl Model for Interlink {
     ghost view = { λ lane. lane.table.shared.table_id };
 
     ghost invariant = { λ lane. (lane.table.shared.table_id.words ≡ 3) × (lane.table.shared.table_id.slots ≡ 1024) };
+}
+
+/// Whether a state word says that the interlink is down: no end is up, and the closing end hasn't set it free yet.
+pub fn is_down(word: u64) -> bool
+    ensures { result ≡ is_down word }
+{
+    word != 0 && word % 4 != 1 && word / 4 != 1
 }
 
 impl Interlink {

@@ -1,4 +1,13 @@
-//! An interlink.
+//! An interlink: a ring of packets from one worker to another, lock-free, first in first out.
+//!
+//! - `entry`: what an end's log says
+//! - `view`: what the seats of an interlink's table know, and the rule over its words, slots and views
+//! - `plays`: what each step on the words tells, and how the two ends are parted and joined
+//! - `answers`: what attaching and detaching answer
+//! - `end`: one end, which serves as transmitter and as receiver
+//! - `interlink`: the interlink, and how it is opened
+//! - `tx_end`, `rx_end`: the transmitter and the receiver
+//! - `receipt`: the closing, and its receipt
 #![tactic(auto)]
 
 mod answers;
@@ -8,13 +17,16 @@ mod interlink;
 mod plays;
 mod receipt;
 mod rx_end;
+#[cfg(test)]
+mod tests;
 mod tx_end;
 mod view;
 
 pub use answers::{Attached, Detached};
 pub use entry::LaneEntry;
-pub use interlink::Interlink;
+pub use interlink::{Interlink, is_down};
 pub use receipt::{LaneReceipt, close};
 pub use rx_end::RxEnd;
+pub use sn_core::Side;
 pub use tx_end::TxEnd;
 pub use view::EndState;

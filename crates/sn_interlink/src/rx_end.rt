@@ -91,6 +91,7 @@ impl RxEnd {
         requires out { self.old.state ≡ Out }
         requires seen { self.old.seen ≡ Some seen }
         requires open_yet { is_down seen ≡ false }
+        ensures side { self.old.side ≡ Rx }
         ensures step { AttachStep seen self.old result self.new }
     {
         self.end.attach(lane, seen)
@@ -103,6 +104,7 @@ impl RxEnd {
         requires up { self.old.state ≡ Up }
         requires idle { self.old.half ≡ false }
         requires synced { self.old.synced ≡ true }
+        ensures side { self.old.side ≡ Rx }
         ensures step { DetachStep self.old result self.new }
     {
         self.end.detach(lane)

@@ -85,6 +85,7 @@ impl TxEnd {
         requires out { self.old.state ≡ Out }
         requires seen { self.old.seen ≡ Some seen }
         requires open_yet { is_down seen ≡ false }
+        ensures side { self.old.side ≡ Tx }
         ensures step { AttachStep seen self.old result self.new }
     {
         self.end.attach(lane, seen)
@@ -96,6 +97,7 @@ impl TxEnd {
         requires lane { self.old.lane ≡ lane.now }
         requires up { self.old.state ≡ Up }
         requires idle { self.old.half ≡ false }
+        ensures side { self.old.side ≡ Tx }
         ensures step { DetachStep self.old result self.new }
     {
         self.end.detach(lane)

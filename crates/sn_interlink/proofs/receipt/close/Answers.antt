@@ -1,4 +1,4 @@
-use Rattle.std.proofs.Common.{rules, sym, ap, ◌∙◌, refl, subst, subst₂}
+use Rattle.std.proofs.Common.{rules, sym, ap, ◌∙◌, subst, subst₂}
 use Rattle.atomic_table.specs.declared.shared.Seat.{Seat}
 use Rattle.sn_core.specs.declared.events.Side.TheVariants.{Tx, Rx}
 use Rattle.sn_interlink.specs.declared.view.View.{View}
@@ -6,7 +6,7 @@ use Rattle.sn_interlink.specs.Rule.{Lying}
 use Rattle.sn_interlink.specs.Receipt.{IsLife, Fifo}
 use Rattle.sn_interlink.specs.Closing.{other_known}
 use Rattle.sn_interlink.specs.Plays.{known_of}
-use Rattle.sn_interlink.proofs.Ending.{joins_as, closed, word_is}
+use Rattle.sn_interlink.proofs.Ending.{closed, word_is}
 use Rattle.sn_interlink.proofs.receipt.close.Goals as goal
 
 pub returns-clause-tx_life : goal.returns-clause-tx_life

@@ -1,5 +1,4 @@
-use Rattle.std.proofs.Common.{rules, sym, ap, ◌∙◌, refl}
-use Rattle.sn_interlink.specs.Ends.{LaneEnd}
+use Rattle.std.proofs.Common.{rules}
 use Rattle.sn_interlink.proofs.Calls.{attach_allowed}
 use Rattle.sn_interlink.proofs.end.End.attach.Goals as goal
 

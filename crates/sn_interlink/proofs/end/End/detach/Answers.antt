@@ -1,4 +1,4 @@
-use Rattle.std.proofs.Common.{rules, sym, ap, ◌∙◌, refl, subst, ◌<◌}
+use Rattle.std.proofs.Common.{rules}
 use Rattle.sn_interlink.proofs.Calls.{detach_allowed}
 use Rattle.sn_interlink.proofs.end.End.detach.Goals as goal
 

@@ -1,4 +1,4 @@
-use Rattle.std.proofs.Common.{rules, sym, ap, ◌∙◌, refl, subst, ◌<◌}
+use Rattle.std.proofs.Common.{rules, refl}
 use Rattle.sn_interlink.proofs.RingCalls.{drain_allowed}
 use Rattle.sn_interlink.proofs.end.End.drain_release.Goals as goal
 

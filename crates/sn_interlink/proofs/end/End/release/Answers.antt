@@ -1,4 +1,4 @@
-use Rattle.std.proofs.Common.{rules, sym, ap, ◌∙◌, refl, subst, ◌<◌}
+use Rattle.std.proofs.Common.{rules, refl}
 use Rattle.sn_interlink.proofs.RingCalls.{release_allowed}
 use Rattle.sn_interlink.proofs.end.End.release.Goals as goal
 

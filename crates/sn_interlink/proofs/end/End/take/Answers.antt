@@ -1,4 +1,4 @@
-use Rattle.std.proofs.Common.{rules, sym, ap, ◌∙◌, refl, subst, ◌<◌, ◌≤◌, arith, IsSome}
+use Rattle.std.proofs.Common.{rules, sym, subst, ◌<◌}
 use Rattle.sn_interlink.specs.Ends.{LaneEnd, reach_of}
 use Rattle.sn_interlink.proofs.RingCalls.{slot_out_at, reaches, on_if_up}
 use Rattle.sn_interlink.proofs.end.End.take.Goals as goal

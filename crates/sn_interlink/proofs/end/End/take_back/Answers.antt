@@ -1,5 +1,5 @@
-use Rattle.std.proofs.Common.{rules, sym, ap, ◌∙◌, refl, subst, ◌<◌, ◌≤◌, arith, IsSome}
-use Rattle.sn_interlink.specs.Ends.{LaneEnd, reach_of}
+use Rattle.std.proofs.Common.{rules, ap, ◌∙◌}
+use Rattle.sn_interlink.specs.Ends.{LaneEnd}
 use Rattle.sn_interlink.proofs.RingCalls.{slot_out_at, on_if_up}
 use Rattle.sn_interlink.proofs.end.End.take_back.Goals as goal
 

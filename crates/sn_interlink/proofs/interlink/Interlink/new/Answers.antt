@@ -1,5 +1,4 @@
-use Rattle.std.proofs.Common.{rules}
-use Rattle.sn_interlink.proofs.Parting.{opens, parts}
+use Rattle.sn_interlink.proofs.Parting.{opens}
 use Rattle.sn_interlink.proofs.interlink.Interlink.new.Goals as goal
 
 pub vacant-requires : goal.vacant-requires
