@@ -12,3 +12,6 @@ pub mod LifeOfEnds
 pub mod FirstInFirstOut
 pub mod Sessions
 pub mod Ending
+pub mod ReadOff
+pub mod LaneEvents
+pub mod LawsHold

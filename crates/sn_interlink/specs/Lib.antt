@@ -6,3 +6,5 @@ pub mod Ends
 pub mod Answers
 pub mod Closing
 pub mod Receipt
+pub mod Reading
+pub mod StepLaws

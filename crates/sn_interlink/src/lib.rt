@@ -8,6 +8,7 @@
 //! - `interlink`: the interlink, and how it is opened
 //! - `tx_end`, `rx_end`: the transmitter and the receiver
 //! - `receipt`: the closing, and its receipt
+//! - `step_laws`: each step is the core's event on the lane that is read off words, slots and views
 #![tactic(auto)]
 
 mod answers;
@@ -17,6 +18,7 @@ mod interlink;
 mod plays;
 mod receipt;
 mod rx_end;
+mod step_laws;
 #[cfg(test)]
 mod tests;
 mod tx_end;
@@ -28,5 +30,6 @@ pub use interlink::{Interlink, is_down};
 pub use receipt::{LaneReceipt, close};
 pub use rx_end::RxEnd;
 pub use sn_core::Side;
+pub use step_laws::steps_are_events;
 pub use tx_end::TxEnd;
 pub use view::EndState;
