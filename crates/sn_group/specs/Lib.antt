@@ -1,0 +1,10 @@
+pub mod Cells
+pub mod Views
+pub mod Rule
+pub mod Scans
+pub mod Plays
+pub mod Finds
+pub mod Seats
+pub mod Receipts
+pub mod Reading
+pub mod StepLaws
