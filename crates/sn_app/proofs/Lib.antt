@@ -10,3 +10,4 @@ pub mod Making
 pub mod Handling
 pub mod Naming
 pub mod AtPorts
+mod Examples
