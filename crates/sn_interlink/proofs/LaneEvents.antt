@@ -102,7 +102,7 @@ detach_rx t r up puts read ps p = refl
 detach_rx t r gone puts read ps p = refl
 detach_rx t r closing puts read ps p = cc
 
-all_filled : (ps : List PacketState) → unreleased (filled ps) ≡ 0
+pub all_filled : (ps : List PacketState) → unreleased (filled ps) ≡ 0
 all_filled [] = refl
 all_filled (p ∷ ps) = refl
 
@@ -129,7 +129,7 @@ closer_mine Rx a b p tx rx = ap (closer_as a) (rx refl) ∙ by a (subst (λ x. o
     by gone e = refl
     by closing e = cc
 
-nothing_behind : (puts : List PacketState) (read : ℕ) → length puts ≤ read → drop read puts ≡ []
+pub nothing_behind : (puts : List PacketState) (read : ℕ) → length puts ≤ read → drop read puts ≡ []
 nothing_behind [] zero le = refl
 nothing_behind [] (suc n) le = refl
 nothing_behind (x ∷ xs) zero le = absurd (omega (arith, le))

@@ -46,7 +46,7 @@ far_set Tx w k = refl
 far_set Rx w k = refl
 
 -- what is read before a step, and after it
-before : (t r : ℕ) (s : State Lying View) (side : Side) (v : Known) (x : Half) (u : Known) (y : Half) (scene : Scene s side v x u y) (p : Placed s side v u) → lane_by t r s side v x u y ≡ lane_for t r (course p.hist) side x y
+pub before : (t r : ℕ) (s : State Lying View) (side : Side) (v : Known) (x : Half) (u : Known) (y : Half) (scene : Scene s side v x u y) (p : Placed s side v u) → lane_by t r s side v x u y ≡ lane_for t r (course p.hist) side x y
 before t r s side v x u y scene p =
     ap₂ (λ a b. lane_by t r s side a x b y) (sym p.own) (sym p.far)
     ∙ reads_by t r s p.hist p.k side x y p.meets (subst (λ a. MayBe a.hand x) (sym p.own) scene.mine) (subst (λ a. MayBe a.hand y) (sym p.far) scene.others)
@@ -80,10 +80,10 @@ before_own t r s side v x u y scene p = ap (λ a. lane_by t r s side a x u y) p.
 state_own : (s : State Lying View) (side : Side) (v u : Known) (p : Placed s side v u) → (of_side side p.k).state ≡ v.state
 state_own s side v u p = ap (λ a. a.state) p.own
 
-hand_far : (s : State Lying View) (side : Side) (v : Known) (x : Half) (u : Known) (y : Half) → Scene s side v x u y → (p : Placed s side v u) → MayBe (of_side (other side) p.k).hand y
+pub hand_far : (s : State Lying View) (side : Side) (v : Known) (x : Half) (u : Known) (y : Half) → Scene s side v x u y → (p : Placed s side v u) → MayBe (of_side (other side) p.k).hand y
 hand_far s side v x u y scene p = subst (λ a. MayBe a.hand y) (sym p.far) scene.others
 
-hand_own : (s : State Lying View) (side : Side) (v : Known) (x : Half) (u : Known) (y : Half) → Scene s side v x u y → (p : Placed s side v u) → MayBe (of_side side p.k).hand x
+pub hand_own : (s : State Lying View) (side : Side) (v : Known) (x : Half) (u : Known) (y : Half) → Scene s side v x u y → (p : Placed s side v u) → MayBe (of_side side p.k).hand x
 hand_own s side v x u y scene p = subst (λ a. MayBe a.hand x) (sym p.own) scene.mine
 
 -- MARKS THAT CAN'T BE
@@ -383,7 +383,7 @@ drain_release_law t r s side v u y first bound packet scene is_state hand_is =
 -- LAYING
 
 -- the transmitter may write here
-may_write : (h : Hand) (c : Course) (p : PacketState) → HandOk Tx h c → MayBe h (laid p) → (c.tx ≡ up) × (length c.puts < c.read + 1023)
+pub may_write : (h : Hand) (c : Course) (p : PacketState) → HandOk Tx h c → MayBe h (laid p) → (c.tx ≡ up) × (length c.puts < c.read + 1023)
 may_write Nothing c p ok may = absurd may
 may_write (Writing a b) c p ok may = let n = ok.next in let m = ok.room in (ok.is_there, omega (arith, n, m, may))
 may_write (Reading a b z) c p ok may = absurd may
@@ -426,7 +426,7 @@ filled_more : (xs ys : List PacketState) → filled (xs ++ ys) ≡ filled xs ++ 
 filled_more [] ys = refl
 filled_more (x ∷ xs) ys = ap (λ l. Some (tag x) ∷ l) (filled_more xs ys)
 
-length_filled : (xs : List PacketState) → length (filled xs) ≡ length xs
+pub length_filled : (xs : List PacketState) → length (filled xs) ≡ length xs
 length_filled [] = refl
 length_filled (x ∷ xs) = ap suc (length_filled xs)
 

@@ -15,3 +15,4 @@ pub mod Ending
 pub mod ReadOff
 pub mod LaneEvents
 pub mod LawsHold
+pub mod ReadIsSound

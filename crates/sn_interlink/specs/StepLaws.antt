@@ -9,6 +9,7 @@ use Rattle.sn_core.specs.Lane.{LaneState}
 use Rattle.sn_core.specs.Lane as lanes
 use Rattle.sn_core.specs.Seat.{SeatState, turn_of, has_claimed, with_packet, without_packet}
 use Rattle.sn_core.specs.Core.{Core, after, with_lane, with_seat, may_hand_over}
+use Rattle.sn_core.specs.Sound.{LaneIsSound}
 use Rattle.sn_packet.specs.Packet.{PacketState}
 use Rattle.sn_interlink.specs.declared.view.EndState.TheVariants.{Out, Up, Closing}
 use Rattle.sn_interlink.specs.declared.view.Hand.{Hand}
@@ -148,3 +149,8 @@ abbrev pub DrainReleaseLaw : Type 0
 DrainReleaseLaw = (t r : ℕ) (s : State Lying View) (side : Side) (v u : Known) (y : Half) (first bound : ℕ) (p : PacketState) → Scene s side v taken u y → v.state ≡ Closing → v.hand ≡ Reading first bound (Some p)
     → let w = drained side (slot_at s.homes (outs_by side (out_of v.hand taken) (out_of u.hand y)) ((first + 1) % 1024)) v in
     Follows (λ l. DrainRelease l side) (lane_by t r s side v taken u y) (lane_by t r (moved s 2 (first + 1) side v taken w) side w idle u y)
+
+-- WHAT IS READ IS SOUND
+
+abbrev pub SoundLaw : Type 0
+SoundLaw = (t r : ℕ) (s : State Lying View) (side : Side) (v : Known) (x : Half) (u : Known) (y : Half) → Scene s side v x u y → LaneIsSound (lane_by t r s side v x u y)

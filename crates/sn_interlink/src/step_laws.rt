@@ -1,8 +1,9 @@
 //! Each step on an interlink is the core's event: a law for each step, as the contract of a function that does nothing.
 
-ghost use Rattle.sn_interlink.specs.StepLaws.{LookLaw, AttachLaw, MissLaw, DetachLaw, ResetLaw, SyncLaw, RoomLaw, FarRoomLaw, SeeLaw, TakeLaw, ReleaseLaw, LayLaw, TakeBackLaw, PublishLaw, DrainTakeLaw, DrainReleaseLaw};
+ghost use Rattle.sn_interlink.specs.StepLaws.{LookLaw, AttachLaw, MissLaw, DetachLaw, ResetLaw, SyncLaw, RoomLaw, FarRoomLaw, SeeLaw, TakeLaw, ReleaseLaw, LayLaw, TakeBackLaw, PublishLaw, DrainTakeLaw, DrainReleaseLaw, SoundLaw};
 
-/// Each step is its event on the lane that is read off words, slots and views.
+/// Each step is its event on the lane that is read off words, slots and views, and what is read
+/// there is sound.
 pub fn steps_are_events()
     ensures look { LookLaw }
     ensures attach { AttachLaw }
@@ -20,4 +21,5 @@ pub fn steps_are_events()
     ensures publish { PublishLaw }
     ensures drain_take { DrainTakeLaw }
     ensures drain_release { DrainReleaseLaw }
+    ensures sound { SoundLaw }
 {}

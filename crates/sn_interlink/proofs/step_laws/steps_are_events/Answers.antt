@@ -1,4 +1,5 @@
 use Rattle.sn_interlink.proofs.LawsHold.{look_law, attach_law, miss_law, detach_law, reset_law, sync_law, room_law, far_room_law, see_law, take_law, release_law, lay_law, take_back_law, publish_law, drain_take_law, drain_release_law}
+use Rattle.sn_interlink.proofs.ReadIsSound.{sound_law}
 use Rattle.sn_interlink.proofs.step_laws.steps_are_events.Goals as goal
 
 pub returns : goal.returns
@@ -19,4 +20,5 @@ returns c = record {
   publish = publish_law;
   drain_take = drain_take_law;
   drain_release = drain_release_law;
+  sound = sound_law;
 }
