@@ -1,7 +1,7 @@
 -- A call at named ports, where they are linked and where they aren't.
-use Rattle.std.proofs.Common.{◌≡◌, ℕ, Option, Some, None, IfSome, IfNone, Result, Ok, sym, subst, refl}
+use Rattle.std.proofs.Common.{◌≡◌, ℕ, Option, Some, None, IfSome, IfNone, Result, Ok, sym, subst}
 use Rattle.sn_app.specs.Apps.{AppState, at_port, at_ports}
-use Rattle.sn_app.specs.Reader.{Meaning, pure}
+use Rattle.sn_app.specs.Reader.{Meaning}
 use Rattle.sn_app.specs.Runs.{Runs}
 use Rattle.sn_app.specs.World.{World}
 use Rattle.sn_app.specs.declared.halt.Halt.{Halt}

@@ -1,23 +1,19 @@
 -- What a call of a context is to an app that makes it: a run of the call's row, with the app's places.
-use Rattle.std.proofs.Common.{◌≡◌, ◌≢◌, ℕ, ◌+◌, ◌<◌, ◌≤◌, List, [], ◌∷◌, Option, Some, None, IsSome, IfSome, Result, Ok, Err, refl, sym, ap, subst, ◌∙◌, arith}
-use Rattle.sn_journal.specs.HandOvers.{PacketName}
+use Rattle.std.proofs.Common.{◌≡◌, ◌≢◌, ℕ, ◌<◌, List, [], ◌∷◌, Option, Some, None, IfSome, Result, Ok, Err, refl, sym, ap, subst, ◌∙◌, arith}
 use Rattle.sn_link.specs.Link.{Line}
-use Rattle.sn_link.specs.declared.counts.LinkCounts.{LinkCounts}
 use Rattle.sn_packet.specs.Hold.{among, put_at}
 use Rattle.sn_packet.specs.Packet.{PacketState}
 use Rattle.sn_packet.proofs.Puts.{put_at_other, put_at_same}
 use Rattle.sn_app.specs.Answers.{Answers, OnTray, Stays}
 use Rattle.sn_app.specs.Calls.{IsFresh, named}
-use Rattle.sn_app.specs.Desk.{Desk, Tray, counted_on, freed, kept_counts, name_of, on_tray}
+use Rattle.sn_app.specs.Desk.{Tray, counted_on, freed, name_of, on_tray}
 use Rattle.sn_app.specs.Reader.{Meaning, change, change_tray}
 use Rattle.sn_app.specs.Rows.{counts, frees, row_allocate}
 use Rattle.sn_app.specs.Runs.{Moves, Runs}
-use Rattle.sn_app.specs.World.{Used, World, world, packet_at, IsSound, desk_of, queue_in, in_slots, nowhere, ◌⊕◌}
+use Rattle.sn_app.specs.World.{Used, world, packet_at, IsSound, desk_of, queue_in, in_slots, nowhere, ◌⊕◌}
 use Rattle.sn_app.specs.declared.counters.Counter.{Counter}
 use Rattle.sn_app.specs.declared.halt.Halt.{Halt}
-use Rattle.sn_app.proofs.Moving.{desk_used, moves_fresh, moves_gone, moves_still, moves_then, moves_written, something, sound_as, sound_moved, untouched_fresh, untouched_own}
-use Rattle.sn_app.proofs.Readings.{stays_same}
-use Rattle.sn_app.proofs.Running.{runs_silent}
+use Rattle.sn_app.proofs.Moving.{desk_used, moves_fresh, moves_gone, moves_still, moves_written, something, sound_as, untouched_fresh, untouched_own}
 use Rattle.sn_app.proofs.Sending.{runs_changed}
 use Rattle.sn_app.proofs.Slots.{all_misfits_same}
 
@@ -60,7 +56,7 @@ unfolding desk_of change change_tray
 runs_tray f {t} {s} u v slots mine tray used log stays =
     subst (λ z. Runs (change_tray f) (world t u slots) (world z v slots) mine mine (Ok tt)) (sym tray)
     (subst (λ w. Runs (change_tray f) (world t u slots) (world (f t) w slots) mine mine (Ok tt)) (sym used)
-      (runs_changed (on_tray f) refl log stays (moves_still t (f t) u slots mine)))
+    (runs_changed (on_tray f) refl log stays (moves_still t (f t) u slots mine)))
 
 pub runs_count : {t s : Tray} (app : ℕ) (counter : Counter) (by : ℕ) (u v : Used) (slots : List (Option Line)) (mine : ℕ → ℕ)
     → s ≡ counted_on app counter by t → v ≡ u → Runs (counts app counter by) (world t u slots) (world s v slots) mine mine (Ok tt)
@@ -76,14 +72,16 @@ unfolding frees desk_of change change_tray
 runs_free {t} {s} u v slots place h tray used =
     subst (λ z. Runs (frees (name_of (packet_at u place))) (world t u slots) (world z v slots) (among (place ∷ [])) nowhere (Ok tt)) (sym tray)
     (runs_changed (on_tray later) (sym (desk_used t (later t) u v slots (λ q k. untouched_own t t u v slots place others nowhere beside q (omega (arith, k)))))
-      refl (record { constants = refl; started = λ file e. e }) (moves_gone t (later t) u v slots place others))
-    where
-      later : Tray → Tray
-      later z = freed (name_of (packet_at u place)) z
-      others : (q : ℕ) → q ≢ place → v q ≡ u q
-      others q differs = ap (λ f. f q) used ∙ put_at_other place None u q differs
-      beside : IsSound (world t u slots) (among (place ∷ []) ⊕ nowhere)
-      beside = sound_as (λ q. omega arith) h
+    refl (record { constants = refl; started = λ file e. e }) (moves_gone t (later t) u v slots place others))
+  where
+    later : Tray → Tray
+    later z = freed (name_of (packet_at u place)) z
+
+    others : (q : ℕ) → q ≢ place → v q ≡ u q
+    others q differs = ap (λ f. f q) used ∙ put_at_other place None u q differs
+
+    beside : IsSound (world t u slots) (among (place ∷ []) ⊕ nowhere)
+    beside = sound_as (λ q. omega arith) h
 
 -- a packet of one's own is written: no desk shows it
 module _ {t s : Tray} (u v : Used) (slots : List (Option Line)) (place : ℕ) (packet : PacketState)
@@ -130,6 +128,7 @@ module _ {t s : Tray} (u v : Used) (slots : List (Option Line)) (mine : ℕ → 
     where
       fresh_at : (o : Option ℕ) (place : ℕ) → o ≡ Some place → IfSome o (IsFresh u v) → IsFresh u v place
       fresh_at o place some f = subst (λ p. IfSome p (IsFresh u v)) some f
+
       the_place : (o : Option ℕ) (place q : ℕ) → o ≡ Some place → gave o ≡ gave (Some q) → q ≡ place
       the_place o place q some e = cc
 

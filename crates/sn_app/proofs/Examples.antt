@@ -1,13 +1,12 @@
 -- Runs on a small desk, worked out: what the definitions give, entry by entry.
 use Rattle.std.proofs.Common.{◌≡◌, ℕ, zero, suc, Bool, true, false, List, [], ◌∷◌, Option, Some, None, refl}
-use Rattle.sn_core.specs.declared.events.Side.{Side}
 use Rattle.sn_core.specs.declared.events.Side.TheVariants.{Rx, Tx}
 use Rattle.sn_journal.specs.declared.entry.Entry.{Entry}
-use Rattle.sn_journal.specs.declared.entry.Entry.TheVariants.{Attach, Unattached, Detach, Reset, Room, Put, Drain, Got, Dry, Stop}
+use Rattle.sn_journal.specs.declared.entry.Entry.TheVariants.{Attach, Unattached, Detach, Reset, Room, Put, Drain, Dry, Stop}
 use Rattle.sn_journal.specs.HandOvers.{PacketName}
 use Rattle.sn_link.specs.Counts.{no_counts}
 use Rattle.sn_packet.specs.Packet.{PacketState}
-use Rattle.sn_app.specs.Apps.{AppState, tee_push, tee_inputs, tee_input, tee_where, tee_one, tee_gather, tee_gathered, tee_sends, tee_packet, frees_all, runs_dry, next_of, with_next}
+use Rattle.sn_app.specs.Apps.{tee_push, tee_inputs, tee_input, tee_where, tee_one, tee_gather, tee_gathered, tee_sends, tee_packet, frees_all, runs_dry, next_of, with_next}
 use Rattle.sn_app.specs.Counts.{no_app_counts}
 use Rattle.sn_app.specs.Desk.{Desk, Tray, Queue, End, Constants, nothing, no_queue, out_end, up_end}
 use Rattle.sn_app.specs.Gates.{working, gate_in, gate_by, gate_of, gate_named, stands, stops_here, stop_at, passed}

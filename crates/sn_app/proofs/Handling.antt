@@ -1,5 +1,5 @@
 -- A packet is taken from an input and handled, and how many an input has and an output takes.
-use Rattle.std.proofs.Common.{◌≡◌, ℕ, ◌+◌, ◌-◌, ◌<◌, ◌≤◌, Bool, true, false, List, [], ◌∷◌, map, length, Option, Some, None, IsSome, Result, Ok, Err, refl, sym, ap, subst, ◌∙◌, arith}
+use Rattle.std.proofs.Common.{◌≡◌, ℕ, ◌+◌, ◌-◌, ◌<◌, Bool, false, List, [], ◌∷◌, length, Option, Some, None, Result, Ok, Err, refl, ap, subst, ◌∙◌, arith}
 use Rattle.std.proofs.lemmas.List.{length-map}
 use Rattle.std.specs.Option.{option_map}
 use Rattle.sn_link.specs.Link.{Line, most_queued}
@@ -29,8 +29,8 @@ module _ {t : Tray} {u : Used} {from mid : Ports} (row : ℕ) (result : Option �
   unfolding next_of with_next
   did_next_none none = record {
     runs = runs_bind (λ packet. with_next packet m)
-      (subst (λ r. Runs (takes row) (world t u (slots_of from)) (world t u (slots_of mid)) nowhere (at_answer r) (Ok (option_map (packet_at u) r))) none taken)
-      (runs_pure false (world t u (slots_of mid)) nowhere);
+        (subst (λ r. Runs (takes row) (world t u (slots_of from)) (world t u (slots_of mid)) nowhere (at_answer r) (Ok (option_map (packet_at u) r))) none taken)
+        (runs_pure false (world t u (slots_of mid)) nowhere);
     same = same;
     rows = rows;
   }

@@ -8,7 +8,7 @@ use Rattle.sn_app.specs.Answers.{Stays}
 use Rattle.sn_app.specs.Desk.{Tray}
 use Rattle.sn_app.specs.Ports.{HasInputs, HasLinks, HasOutputs, KeepsRows, SamePorts, in_ports, in_row, ins_of, key_at, line_at, out_ports, out_row, outs_of, rows_of, slots_of}
 use Rattle.sn_app.specs.Reader.{Meaning, pure, ◌>>=◌, times, on_each, stepping}
-use Rattle.sn_app.specs.Runs.{Moves, Runs, Continues}
+use Rattle.sn_app.specs.Runs.{Runs}
 use Rattle.sn_app.specs.World.{IsSound, Used, World, desk_of, nowhere, world}
 use Rattle.sn_app.specs.declared.halt.Halt.{Halt}
 use Rattle.sn_app.specs.declared.ports.Ports.{Ports}

@@ -1,5 +1,5 @@
 -- A packet is made: it is allocated and written, and then sent and counted, or freed and counted.
-use Rattle.std.proofs.Common.{◌≡◌, ℕ, ◌+◌, List, [], ◌∷◌, Bool, true, false, Option, Some, None, IsSome, IfSome, Result, Ok, Err, unwrap_or, inl, inr, refl, sym, ap, subst, ◌∙◌, arith}
+use Rattle.std.proofs.Common.{◌≡◌, ℕ, List, [], ◌∷◌, Bool, true, false, Option, Some, IfSome, Result, Ok, Err, unwrap_or, inl, inr, refl, sym, ap, subst, ◌∙◌, arith}
 use Rattle.sn_link.specs.Link.{Line}
 use mathlib.Core.Path.{fun_ext}
 use Rattle.std.proofs.lemmas.Bool.{cases_eq}
@@ -9,16 +9,16 @@ use Rattle.sn_packet.proofs.Puts.{put_at_other, put_at_same}
 use Rattle.sn_app.specs.Answers.{OnTray}
 use Rattle.sn_app.specs.Apps.{AppState, frees_counted, runs_dry, sends_counted, staying}
 use Rattle.sn_app.specs.Calls.{IsFresh, named, rewritten_at}
-use Rattle.sn_app.specs.Desk.{Tray, counted_on, freed, name_of}
+use Rattle.sn_app.specs.Desk.{Tray, counted_on, name_of}
 use Rattle.sn_app.specs.Reader.{Meaning, pure}
 use Rattle.sn_app.specs.Rows.{counts, frees, packet_of, row_allocate, sends}
 use Rattle.sn_app.specs.Runs.{Runs}
-use Rattle.sn_app.specs.World.{Used, World, world, packet_at, IsSound, nowhere, ◌⊕◌}
+use Rattle.sn_app.specs.World.{Used, World, world, packet_at, IsSound, nowhere}
 use Rattle.sn_app.specs.declared.counters.Counter.{Counter}
 use Rattle.sn_app.specs.declared.halt.Halt.{Halt}
 use Rattle.sn_app.specs.declared.counters.Counter.TheVariants.{Packets, Dry}
 use Rattle.sn_app.proofs.Calling.{desk_written_at, gave, moves_written_at, runs_allocate_some, runs_count, written_at}
-use Rattle.sn_app.proofs.Moving.{sound_as, sound_moved}
+use Rattle.sn_app.proofs.Moving.{sound_moved}
 use Rattle.sn_app.proofs.Running.{runs_as, runs_bind, runs_fail, runs_pure, runs_silent, runs_silent_after}
 
 module _ {t s z : Tray} (u v w : Used) (slots : List (Option Line)) (h : IsSound (world t u slots) nowhere)

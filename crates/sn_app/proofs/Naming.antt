@@ -1,15 +1,11 @@
 -- A named port, as the code finds it and as a desk has it.
-use Rattle.std.proofs.Common.{◌≡◌, ℕ, zero, suc, ◌+◌, ◌<◌, ◌≤◌, Bool, true, false, not, cond, nat_lt, ltb-true, List, [], ◌∷◌, length, get_or, Option, Some, None, refl, sym, ap, subst, ◌∙◌, arith, bytes_eq, position, one-add, IfSome, IfNone, rules}
+use Rattle.std.proofs.Common.{◌≡◌, ℕ, suc, ◌+◌, ◌<◌, Bool, true, false, not, cond, nat_lt, ltb-true, List, [], ◌∷◌, length, Option, Some, None, refl, sym, ap, subst, ◌∙◌, arith, bytes_eq, one-add, IfSome, IfNone, rules}
 use Rattle.std.proofs.lemmas.Bool.{lt-ltb}
 use Rattle.std.proofs.lemmas.Bool.Decides.{nat_tests}
-use Rattle.std.specs.List.{position_or_len, prefix_len}
+use Rattle.std.specs.List.{position_or_len}
 use Rattle.sn_link.specs.Link.{Line}
 use Rattle.sn_app.specs.Apps.{row_named}
-use Rattle.sn_app.specs.Ports.{key_at, line_at, place_of, row_at, rows_of}
-
-
-
-
+use Rattle.sn_app.specs.Ports.{line_at, place_of, row_at, rows_of}
 
 below_suc : (a b : ℕ) → nat_lt (suc a) (suc b) ≡ nat_lt a b
 below_suc a b = grind (arith, nat_tests)
@@ -18,7 +14,7 @@ below_suc a b = grind (arith, nat_tests)
 row_first : (slots : List (Option Line)) (ports : List (List ℕ × ℕ)) (name : List ℕ)
     → row_named name (rows_of slots ports)
     ≡ cond (nat_lt (position_or_len (λ port. bytes_eq port.0 name) ports) (length ports))
-      (Some (row_at slots ports (position_or_len (λ port. bytes_eq port.0 name) ports))) None
+    (Some (row_at slots ports (position_or_len (λ port. bytes_eq port.0 name) ports))) None
 unfolding rows_of
 row_first slots [] name = refl
 row_first slots (port ∷ ports) name = by_name (bytes_eq port.0 name) (row_first slots ports name)
@@ -26,17 +22,17 @@ row_first slots (port ∷ ports) name = by_name (bytes_eq port.0 name) (row_firs
     by_name : (b : Bool)
         → row_named name (rows_of slots ports)
         ≡ cond (nat_lt (position_or_len (λ port. bytes_eq port.0 name) ports) (length ports))
-          (Some (row_at slots ports (position_or_len (λ port. bytes_eq port.0 name) ports))) None
+        (Some (row_at slots ports (position_or_len (λ port. bytes_eq port.0 name) ports))) None
         → (cond b (Some (line_at slots port.1).row) (row_named name (rows_of slots ports)))
         ≡ cond (nat_lt (cond (not b) (1 + position_or_len (λ p. bytes_eq p.0 name) ports) 0) (suc (length ports)))
-          (Some (row_at slots (port ∷ ports) (cond (not b) (1 + position_or_len (λ p. bytes_eq p.0 name) ports) 0))) None
+        (Some (row_at slots (port ∷ ports) (cond (not b) (1 + position_or_len (λ p. bytes_eq p.0 name) ports) 0))) None
     by_name true rest = ap (λ b. cond b (Some (line_at slots port.1).row) None) (sym (lt-ltb 0 (suc (length ports)) (omega arith)))
     by_name false rest =
         rest
         ∙ (ap (λ b. cond b (Some (row_at slots ports (position_or_len (λ p. bytes_eq p.0 name) ports))) None)
-            (sym (below_suc (position_or_len (λ p. bytes_eq p.0 name) ports) (length ports)))
+        (sym (below_suc (position_or_len (λ p. bytes_eq p.0 name) ports) (length ports)))
         ∙ ap (λ n. cond (nat_lt n (suc (length ports))) (Some (row_at slots (port ∷ ports) n)) None)
-          (sym (one-add (position_or_len (λ p. bytes_eq p.0 name) ports))))
+        (sym (one-add (position_or_len (λ p. bytes_eq p.0 name) ports))))
 
 the_some : (k i : ℕ) → Some k ≡ Some i → k ≡ i
 the_some k i e = cc

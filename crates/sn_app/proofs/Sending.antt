@@ -12,7 +12,7 @@ use Rattle.sn_packet.specs.Hold.{among, put_at}
 use Rattle.sn_packet.proofs.Puts.{put_at_other}
 use Rattle.sn_app.specs.Answers.{Answers, Stays}
 use Rattle.sn_app.specs.Desk.{Desk, Tray, Queue, name_of, freed, sent, sent_as, sent_on, front_rest, with_queue, on_tray}
-use Rattle.sn_app.specs.Ports.{HasLinks, KeepsRows, key_at, line_at, rows_of}
+use Rattle.sn_app.specs.Ports.{HasLinks, KeepsRows, key_at, line_at}
 use Rattle.sn_app.specs.Reader.{change, pure}
 use Rattle.sn_app.specs.Rows.{sends, takes, taking_front}
 use Rattle.sn_app.specs.Runs.{Moves, Runs}

@@ -50,7 +50,12 @@ pub trait Handler<C: Ctx> {
 ///
 /// # Errors
 /// A stop, or want of memory.
-pub fn handle_next<C: Ctx, H: Handler<C>>(handler: &H, ctx: &mut C, ports: &mut Ports<'_>, i: usize) -> Result<bool, Halt>
+pub fn handle_next<C: Ctx, H: Handler<C>>(
+    handler: &H,
+    ctx: &mut C,
+    ports: &mut Ports<'_>,
+    i: usize,
+) -> Result<bool, Halt>
     requires ready { IsReady (H.app handler.now) (C.tray ctx.old) (C.used ctx.old) ports.old }
     requires fits { H.fits handler.now ports.old }
     requires i { i < length (ins_of ports.old) }

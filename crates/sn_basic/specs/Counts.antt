@@ -1,5 +1,5 @@
 -- What an app needs of its context to count.
-use Rattle.std.specs.Prelude.{ℕ, ◌<◌, ◌≡◌, length}
+use Rattle.std.specs.Prelude.{ℕ, ◌<◌, length}
 use Rattle.std.proofs.Common.{sym, subst}
 use Rattle.sn_app.specs.Answers.{Stays}
 use Rattle.sn_app.specs.Desk.{Tray, roster_of}

@@ -1,6 +1,6 @@
 -- What a handler does at an output stays, while the ports and the links' rows do.
 use Rattle.std.specs.Prelude.{ℕ, ◌<◌, ◌≡◌, length}
-use Rattle.std.proofs.Common.{ap, subst, sym, ◌∙◌}
+use Rattle.std.proofs.Common.{ap}
 use Rattle.sn_app.specs.Ports.{KeepsRows, SamePorts, out_row, outs_of, slots_of}
 use Rattle.sn_app.specs.declared.ports.Ports.{Ports}
 use Rattle.sn_app.proofs.Looping.{out_row_kept, out_within}

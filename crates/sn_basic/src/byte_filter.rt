@@ -9,7 +9,9 @@ ghost use Rattle.sn_basic.specs.Outputs.{outputs_stay, within_later};
 ghost use Rattle.sn_config.specs.ArgText.{IsArgOf};
 ghost use Rattle.sn_names.specs.declared.class.Class.{Class};
 
-use sn_app::{App, Counter, Ctx, Halt, Handler, Ports, handle_some, linked_input, linked_output, send};
+use sn_app::{
+    App, Counter, Ctx, Halt, Handler, Ports, handle_some, linked_input, linked_output, send,
+};
 use sn_names::{Arg, Class};
 
 /// Whether the packet at a place has this byte there.

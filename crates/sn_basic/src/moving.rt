@@ -40,7 +40,13 @@ fn lesser(a: u32, b: u32) -> u32
 }
 
 /// As many packets of an input as are readable there and find room on the output, both read once.
-pub(crate) fn move_some<C: Ctx>(app: u32, ctx: &mut C, ports: &mut Ports<'_>, i: usize, o: usize) -> Result<bool, Halt>
+pub(crate) fn move_some<C: Ctx>(
+    app: u32,
+    ctx: &mut C,
+    ports: &mut Ports<'_>,
+    i: usize,
+    o: usize,
+) -> Result<bool, Halt>
     requires ready { IsReady app (C.tray ctx.old) (C.used ctx.old) ports.old }
     requires i { i < length (ins_of ports.old) }
     requires o { o < length (outs_of ports.old) }

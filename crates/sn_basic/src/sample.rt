@@ -10,7 +10,9 @@ ghost use Rattle.sn_config.specs.ArgText.{IsArgOf};
 ghost use Rattle.sn_link.specs.Counts.{raised};
 ghost use Rattle.sn_names.specs.declared.class.Class.{Class};
 
-use sn_app::{App, Counter, Ctx, Halt, Handler, Ports, handle_next, linked_input, linked_output, send};
+use sn_app::{
+    App, Counter, Ctx, Halt, Handler, Ports, handle_next, linked_input, linked_output, send,
+};
 use sn_names::{Arg, Class};
 
 /// Sends the packet after `seen` others where `n` divides its number, and frees it else.

@@ -18,7 +18,13 @@ const MOST_PULLED: u32 = 102;
 const USUAL_SIZE: u32 = 60;
 
 /// One packet for an output. False where there was no free one, so that the pull ends.
-fn send_one<C: Ctx>(row: u32, size: u32, ctx: &mut C, ports: &mut Ports<'_>, o: usize) -> Result<bool, Halt>
+fn send_one<C: Ctx>(
+    row: u32,
+    size: u32,
+    ctx: &mut C,
+    ports: &mut Ports<'_>,
+    o: usize,
+) -> Result<bool, Halt>
     requires ready { IsReady row (C.tray ctx.old) (C.used ctx.old) ports.old }
     requires size { size ≤ most_bytes }
     requires o { o < length (outs_of ports.old) }
@@ -37,7 +43,13 @@ fn send_one<C: Ctx>(row: u32, size: u32, ctx: &mut C, ports: &mut Ports<'_>, o: 
 }
 
 /// A burst of packets for an output. False where the pull ends.
-fn send_burst<C: Ctx>(row: u32, size: u32, ctx: &mut C, ports: &mut Ports<'_>, o: usize) -> Result<bool, Halt>
+fn send_burst<C: Ctx>(
+    row: u32,
+    size: u32,
+    ctx: &mut C,
+    ports: &mut Ports<'_>,
+    o: usize,
+) -> Result<bool, Halt>
     requires ready { IsReady row (C.tray ctx.old) (C.used ctx.old) ports.old }
     requires size { size ≤ most_bytes }
     requires o { o < length (outs_of ports.old) }
@@ -54,7 +66,12 @@ fn send_burst<C: Ctx>(row: u32, size: u32, ctx: &mut C, ports: &mut Ports<'_>, o
 }
 
 /// A burst for each output in turn. False where the pull ended early.
-fn send_bursts<C: Ctx>(row: u32, size: u32, ctx: &mut C, ports: &mut Ports<'_>) -> Result<bool, Halt>
+fn send_bursts<C: Ctx>(
+    row: u32,
+    size: u32,
+    ctx: &mut C,
+    ports: &mut Ports<'_>,
+) -> Result<bool, Halt>
     requires ready { IsReady row (C.tray ctx.old) (C.used ctx.old) ports.old }
     requires size { size ≤ most_bytes }
     ensures did { Did (source_pull row size (out_ports ports.old)) (C.tray ctx.old) (C.tray ctx.new) (C.used ctx.old) (C.used ctx.new)

@@ -9,7 +9,9 @@ ghost use Rattle.sn_basic.specs.Outputs.{outputs_stay, within_later};
 ghost use Rattle.sn_config.specs.ArgText.{IsArgOf};
 ghost use Rattle.sn_names.specs.declared.class.Class.{Class};
 
-use sn_app::{App, Counter, Ctx, Halt, Handler, Ports, handle_some, linked_input, linked_output, send};
+use sn_app::{
+    App, Counter, Ctx, Halt, Handler, Ports, handle_some, linked_input, linked_output, send,
+};
 use sn_names::{Arg, Class};
 
 /// The packet at a place keeps at most so many bytes.
@@ -52,7 +54,14 @@ impl<C: Ctx> Handler<C> for Cut {
 }
 
 /// All that is readable of an input.
-fn cut_all<C: Ctx>(app: u32, most: u32, ctx: &mut C, ports: &mut Ports<'_>, i: usize, o: usize) -> Result<bool, Halt>
+fn cut_all<C: Ctx>(
+    app: u32,
+    most: u32,
+    ctx: &mut C,
+    ports: &mut Ports<'_>,
+    i: usize,
+    o: usize,
+) -> Result<bool, Halt>
     requires ready { IsReady app (C.tray ctx.old) (C.used ctx.old) ports.old }
     requires i { i < length (ins_of ports.old) }
     requires o { o < length (outs_of ports.old) }

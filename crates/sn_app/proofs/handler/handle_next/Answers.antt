@@ -1,4 +1,4 @@
-use Rattle.std.proofs.Common.{◌∷◌, [], ap, subst}
+use Rattle.std.proofs.Common.{◌∷◌, [], subst}
 use Rattle.sn_packet.specs.Hold.{among}
 use Rattle.sn_app.specs.Ports.{in_row, slots_of}
 use Rattle.sn_app.specs.Runs.{Runs}
@@ -13,7 +13,7 @@ handle-requires-clause-ready g c = record {
   ins = inputs_kept c.take.ensures.same c.take.ensures.rows c.requires.ready.ins;
   outs = outputs_kept c.take.ensures.same c.take.ensures.rows c.requires.ready.outs;
   sound = sound_without
-    (sound_next (in_row c.args.ports.now c.args.i) c.take.result c.take.ensures.runs c.take.ensures.same c.take.ensures.rows
+      (sound_next (in_row c.args.ports.now c.args.i) c.take.result c.take.ensures.runs c.take.ensures.same c.take.ensures.rows
       (g.H.Handler.handles c.args.handler.now c.args.ports.now) c.in-Some.place c.in-Some.is c.requires.ready.sound);
 }
 
@@ -35,6 +35,6 @@ returns-in-Some-clause-did g c =
     did_next (in_row c.args.ports.now c.args.i) c.take.result c.take.ensures.runs c.take.ensures.same c.take.ensures.rows
     (g.H.Handler.handles c.args.handler.now c.args.ports.now) c.in-Some.place c.in-Some.is
     (subst (λ m. Runs (m (packet_at u c.in-Some.place)) (world t u (slots_of c.take.new.ports))
-        (world (g.C.Ctx.tray c.handle.new.ctx) (g.C.Ctx.used c.handle.new.ctx) (slots_of c.handle.new.ports)) (among (c.in-Some.place ∷ [])) nowhere c.handle.result)
-      later c.handle.ensures.runs)
+    (world (g.C.Ctx.tray c.handle.new.ctx) (g.C.Ctx.used c.handle.new.ctx) (slots_of c.handle.new.ports)) (among (c.in-Some.place ∷ [])) nowhere c.handle.result)
+    later c.handle.ensures.runs)
     c.handle.ensures.same c.handle.ensures.rows

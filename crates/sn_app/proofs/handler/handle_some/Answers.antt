@@ -1,4 +1,4 @@
-use Rattle.std.proofs.Common.{◌≡◌, Ok, Err, ap, refl, ◌∙◌, rules, arith}
+use Rattle.std.proofs.Common.{◌≡◌, Err, ap, refl, ◌∙◌, rules}
 use Rattle.sn_app.specs.Apps.{next_of}
 use Rattle.sn_app.specs.Ports.{in_row, slots_of}
 use Rattle.sn_app.specs.Reader.{times}
@@ -12,7 +12,7 @@ loop-turn-init g c =
     record {
       lent = refl;
       goes = times_first c.args.count 0 once
-        (goes_start (times c.args.count once) (world (g.C.Ctx.tray c.args.ctx.now) (g.C.Ctx.used c.args.ctx.now) (slots_of c.args.ports.now)) nowhere
+          (goes_start (times c.args.count once) (world (g.C.Ctx.tray c.args.ctx.now) (g.C.Ctx.used c.args.ctx.now) (slots_of c.args.ports.now)) nowhere
           c.args.ports.now c.requires.ready.sound);
     }
 
@@ -32,17 +32,17 @@ returns-in_err-handle_next-clause-did g c =
     let kept = c.loop-turn.invariant.goes in
     let later = g.met.H.Handler.handles_later c.args.handler.now c.args.ports.now c.loop-turn.ports kept.same kept.rows in
     let same = ap (λ row. next_of row (g.H.Handler.handles c.args.handler.now c.loop-turn.ports)) (in_row_kept kept.same kept.rows c.args.i)
-      ∙ ap (next_of (in_row c.args.ports.now c.args.i)) later in
+    ∙ ap (next_of (in_row c.args.ports.now c.args.i)) later in
     let e : c.from_residual.result ≡ Err c.in_err-handle_next.field-0.0 = search rules in
     rw e (turn_halt c.args.count c.loop-turn._turn (next_of (in_row c.args.ports.now c.args.i) (g.H.Handler.handles c.args.handler.now c.args.ports.now))
-      kept c.loop-turn-test.true (did_as same c.in_err-handle_next.ensures.did))
+    kept c.loop-turn-test.true (did_as same c.in_err-handle_next.ensures.did))
 
 pub returns-then-not-branch-clause-did : goal.returns-then-not-branch-clause-did
 returns-then-not-branch-clause-did g c =
     let kept = c.loop-turn.invariant.goes in
     let later = g.met.H.Handler.handles_later c.args.handler.now c.args.ports.now c.loop-turn.ports kept.same kept.rows in
     let same = ap (λ row. next_of row (g.H.Handler.handles c.args.handler.now c.loop-turn.ports)) (in_row_kept kept.same kept.rows c.args.i)
-      ∙ ap (next_of (in_row c.args.ports.now c.args.i)) later in
+    ∙ ap (next_of (in_row c.args.ports.now c.args.i)) later in
     turn_stop c.args.count c.loop-turn._turn (next_of (in_row c.args.ports.now c.args.i) (g.H.Handler.handles c.args.handler.now c.args.ports.now))
     kept c.loop-turn-test.true (did_gave c.if-not-branch.true (did_as same c.in_ok-handle_next.ensures.did))
 
@@ -51,11 +51,11 @@ loop-turn-preserved g c =
     let kept = c.loop-turn.invariant.goes in
     let later = g.met.H.Handler.handles_later c.args.handler.now c.args.ports.now c.loop-turn.ports kept.same kept.rows in
     let same = ap (λ row. next_of row (g.H.Handler.handles c.args.handler.now c.loop-turn.ports)) (in_row_kept kept.same kept.rows c.args.i)
-      ∙ ap (next_of (in_row c.args.ports.now c.args.i)) later in
+    ∙ ap (next_of (in_row c.args.ports.now c.args.i)) later in
     record {
       lent = c.in_ok-handle_next.ensures.lent ∙ c.loop-turn.invariant.lent;
       goes = turn_next c.args.count c.loop-turn._turn (next_of (in_row c.args.ports.now c.args.i) (g.H.Handler.handles c.args.handler.now c.args.ports.now))
-        kept c.loop-turn-test.true (did_gave c.if-not-branch.false (did_as same c.in_ok-handle_next.ensures.did));
+          kept c.loop-turn-test.true (did_gave c.if-not-branch.false (did_as same c.in_ok-handle_next.ensures.did));
     }
 
 pub returns-clause-did : goal.returns-clause-did

@@ -1,4 +1,4 @@
-use Rattle.std.proofs.Common.{codes, rules}
+use Rattle.std.proofs.Common.{codes}
 use Rattle.sn_app.specs.Ports.{outs_of, slots_of}
 use Rattle.sn_app.proofs.Naming.{if_found, if_missing}
 use Rattle.sn_app.proofs.linked.linked_out.Goals as goal

@@ -1,7 +1,7 @@
 use Rattle.std.proofs.Common.{◌≡◌, drop}
 use Rattle.sn_app.specs.Apps.{join_push, move_some}
 use Rattle.sn_app.specs.Loops.{Goes}
-use Rattle.sn_app.specs.Ports.{in_ports, in_row, out_ports, out_row, slots_of}
+use Rattle.sn_app.specs.Ports.{in_ports, out_row, slots_of}
 use Rattle.sn_app.specs.Reader.{on_each}
 use Rattle.sn_app.specs.World.{nowhere, world}
 use Rattle.sn_basic.proofs.join.join_inputs.Given as goal

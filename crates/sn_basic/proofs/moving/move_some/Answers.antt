@@ -18,7 +18,7 @@ returns-clause-did g c =
     let there = room_is {t = g.C.Ctx.tray c.args.ctx.now} {u = g.C.Ctx.used c.args.ctx.now} ports c.args.o c.room-room.result c.requires.ready.outs c.requires.o c.requires.ready.sound c.room-room.ensures in
     did_look (λ d. times (min (readable input d) (room_on out d)) once)
     (did_as
-      (ap (λ n. times n once) c.lesser-most.ensures
-      ∙ (ap (λ n. times (min n c.room-room.result) once) (c.readable-count.ensures ∙ sym here)
-      ∙ ap (λ n. times (min (readable input (desk_of (world (g.C.Ctx.tray c.args.ctx.now) (g.C.Ctx.used c.args.ctx.now) (slots_of ports)))) n) once) (sym there)))
-      c.handle_some.ensures.did)
+    (ap (λ n. times n once) c.lesser-most.ensures
+    ∙ (ap (λ n. times (min n c.room-room.result) once) (c.readable-count.ensures ∙ sym here)
+    ∙ ap (λ n. times (min (readable input (desk_of (world (g.C.Ctx.tray c.args.ctx.now) (g.C.Ctx.used c.args.ctx.now) (slots_of ports)))) n) once) (sym there)))
+    c.handle_some.ensures.did)

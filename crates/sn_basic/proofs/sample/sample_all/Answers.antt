@@ -14,7 +14,7 @@ returns-clause-did g c =
     let once = sample_one c.args.app c.args.n input (out_row ports c.args.o) in
     did_look (λ d. stepping (readable input d) once c.args.seen)
     (did_as
-      (ap (λ n. stepping n once c.args.seen)
-        (c.readable-count.ensures
-        ∙ sym (readable_is {t = g.C.Ctx.tray c.args.ctx.now} {u = g.C.Ctx.used c.args.ctx.now} ports c.args.i c.requires.ready.ins c.requires.i c.requires.ready.sound)))
-      c.sample_some.ensures.did)
+    (ap (λ n. stepping n once c.args.seen)
+    (c.readable-count.ensures
+    ∙ sym (readable_is {t = g.C.Ctx.tray c.args.ctx.now} {u = g.C.Ctx.used c.args.ctx.now} ports c.args.i c.requires.ready.ins c.requires.i c.requires.ready.sound)))
+    c.sample_some.ensures.did)

@@ -1,7 +1,6 @@
-use Rattle.std.proofs.Common.{◌≡◌, ◌∙◌, ℕ, Bool, true, false, Ok, Err, ap, refl, subst, sym, rules, arith}
+use Rattle.std.proofs.Common.{◌≡◌, ◌∙◌, ℕ, Bool, true, false, Err, ap, refl, sym, rules}
 use Rattle.sn_link.specs.Counts.{raised}
 use Rattle.sn_app.specs.Apps.{next_of, sample_one, sample_packet}
-use Rattle.sn_app.specs.Loops.{Did}
 use Rattle.sn_app.specs.Ports.{in_row, out_row, slots_of}
 use Rattle.sn_app.specs.Reader.{stepping, pure}
 use Rattle.sn_app.specs.World.{nowhere, world}
@@ -15,7 +14,7 @@ loop-turn-init g c =
     record {
       lent = refl;
       goes = steps_first c.args.count 0 once c.args.seen
-        (goes_start (stepping c.args.count once c.args.seen) (world (g.C.Ctx.tray c.args.ctx.now) (g.C.Ctx.used c.args.ctx.now) (slots_of c.args.ports.now)) nowhere
+          (goes_start (stepping c.args.count once c.args.seen) (world (g.C.Ctx.tray c.args.ctx.now) (g.C.Ctx.used c.args.ctx.now) (slots_of c.args.ports.now)) nowhere
           c.args.ports.now c.requires.ready.sound);
     }
 
@@ -36,10 +35,10 @@ returns-in_err-on-clause-did g c =
     let input = in_row c.args.ports.now c.args.i in
     let out = out_row c.args.ports.now c.args.o in
     let same = ap (λ row. next_of row (sample_packet c.args.app c.args.n (out_row c.loop-turn.ports c.args.o) now)) (in_row_kept kept.same kept.rows c.args.i)
-      ∙ ap (λ row. next_of input (sample_packet c.args.app c.args.n row now)) (out_row_kept kept.same kept.rows c.args.o) in
+    ∙ ap (λ row. next_of input (sample_packet c.args.app c.args.n row now)) (out_row_kept kept.same kept.rows c.args.o) in
     let e : c.from_residual.result ≡ Err c.in_err-on.field-0.0 = search rules in
     rw e (step_halt c.args.count c.loop-turn._turn (sample_one c.args.app c.args.n input out) now kept c.loop-turn-test.true
-      (did_fails (λ on. pure (on, raised 1 now)) (did_as same c.in_err-on.ensures.did)))
+    (did_fails (λ on. pure (on, raised 1 now)) (did_as same c.in_err-on.ensures.did)))
 
 pub returns-then-not-on-clause-did : goal.returns-then-not-on-clause-did
 unfolding sample_one
@@ -49,9 +48,9 @@ returns-then-not-on-clause-did g c =
     let input = in_row c.args.ports.now c.args.i in
     let out = out_row c.args.ports.now c.args.o in
     let same = ap (λ row. next_of row (sample_packet c.args.app c.args.n (out_row c.loop-turn.ports c.args.o) now)) (in_row_kept kept.same kept.rows c.args.i)
-      ∙ ap (λ row. next_of input (sample_packet c.args.app c.args.n row now)) (out_row_kept kept.same kept.rows c.args.o) in
+    ∙ ap (λ row. next_of input (sample_packet c.args.app c.args.n row now)) (out_row_kept kept.same kept.rows c.args.o) in
     let gives : (c.in_ok-on.on, raised 1 now) ≡ (false, c.saturating_add-now.result) =
-      ap (λ (b : Bool). (b, raised 1 now)) c.if-not-on.true ∙ ap (λ (n : ℕ). (false, n)) (sym c.saturating_add-now.ensures) in
+    ap (λ (b : Bool). (b, raised 1 now)) c.if-not-on.true ∙ ap (λ (n : ℕ). (false, n)) (sym c.saturating_add-now.ensures) in
     step_stop c.args.count c.loop-turn._turn (sample_one c.args.app c.args.n input out) now kept c.saturating_add-now.result c.loop-turn-test.true
     (did_gave gives (did_gives (λ on. (on, raised 1 now)) (did_as same c.in_ok-on.ensures.did)))
 
@@ -63,13 +62,13 @@ loop-turn-preserved g c =
     let input = in_row c.args.ports.now c.args.i in
     let out = out_row c.args.ports.now c.args.o in
     let same = ap (λ row. next_of row (sample_packet c.args.app c.args.n (out_row c.loop-turn.ports c.args.o) now)) (in_row_kept kept.same kept.rows c.args.i)
-      ∙ ap (λ row. next_of input (sample_packet c.args.app c.args.n row now)) (out_row_kept kept.same kept.rows c.args.o) in
+    ∙ ap (λ row. next_of input (sample_packet c.args.app c.args.n row now)) (out_row_kept kept.same kept.rows c.args.o) in
     let gives : (c.in_ok-on.on, raised 1 now) ≡ (true, c.saturating_add-now.result) =
-      ap (λ (b : Bool). (b, raised 1 now)) c.if-not-on.false ∙ ap (λ (n : ℕ). (true, n)) (sym c.saturating_add-now.ensures) in
+    ap (λ (b : Bool). (b, raised 1 now)) c.if-not-on.false ∙ ap (λ (n : ℕ). (true, n)) (sym c.saturating_add-now.ensures) in
     record {
       lent = c.in_ok-on.ensures.lent ∙ c.loop-turn.invariant.lent;
       goes = step_next c.args.count c.loop-turn._turn (sample_one c.args.app c.args.n input out) now kept c.saturating_add-now.result c.loop-turn-test.true
-        (did_gave gives (did_gives (λ on. (on, raised 1 now)) (did_as same c.in_ok-on.ensures.did)));
+          (did_gave gives (did_gives (λ on. (on, raised 1 now)) (did_as same c.in_ok-on.ensures.did)));
     }
 
 pub returns-clause-did : goal.returns-clause-did

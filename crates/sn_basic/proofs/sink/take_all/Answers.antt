@@ -13,6 +13,6 @@ returns-clause-did g c =
     let input = in_row ports c.args.i in
     did_look (λ d. times (readable input d) (next_of input (sink_packet c.args.app)))
     (did_as
-      (ap (λ n. times n (next_of input (sink_packet c.args.app)))
-        (c.readable-count.ensures ∙ sym (readable_is {t = g.C.Ctx.tray c.args.ctx.now} {u = g.C.Ctx.used c.args.ctx.now} ports c.args.i c.requires.ready.ins c.requires.i c.requires.ready.sound)))
-      c.handle_some.ensures.did)
+    (ap (λ n. times n (next_of input (sink_packet c.args.app)))
+    (c.readable-count.ensures ∙ sym (readable_is {t = g.C.Ctx.tray c.args.ctx.now} {u = g.C.Ctx.used c.args.ctx.now} ports c.args.i c.requires.ready.ins c.requires.i c.requires.ready.sound)))
+    c.handle_some.ensures.did)

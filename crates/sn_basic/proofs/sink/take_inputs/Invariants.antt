@@ -1,7 +1,7 @@
 use Rattle.std.proofs.Common.{◌≡◌, drop}
 use Rattle.sn_app.specs.Apps.{sink_all, sink_push}
 use Rattle.sn_app.specs.Loops.{Goes}
-use Rattle.sn_app.specs.Ports.{in_ports, in_row, out_ports, out_row, slots_of}
+use Rattle.sn_app.specs.Ports.{in_ports, slots_of}
 use Rattle.sn_app.specs.Reader.{on_each}
 use Rattle.sn_app.specs.World.{nowhere, world}
 use Rattle.sn_basic.proofs.sink.take_inputs.Given as goal

@@ -1,6 +1,5 @@
-use Rattle.std.proofs.Common.{◌≡◌, Ok, Err, ap, refl, ◌∙◌, rules, arith}
+use Rattle.std.proofs.Common.{◌≡◌, Err, ap, refl, ◌∙◌, rules}
 use Rattle.sn_app.specs.Apps.{source_burst, source_one}
-use Rattle.sn_app.specs.Loops.{Did}
 use Rattle.sn_app.specs.Ports.{out_row, slots_of}
 use Rattle.sn_app.specs.Reader.{times}
 use Rattle.sn_app.specs.World.{nowhere, world}
@@ -14,7 +13,7 @@ loop-turn-init g c =
     record {
       lent = refl;
       goes = times_first 102 0 once
-        (goes_start (times 102 once) (world (g.C.Ctx.tray c.args.ctx.now) (g.C.Ctx.used c.args.ctx.now) (slots_of c.args.ports.now)) nowhere
+          (goes_start (times 102 once) (world (g.C.Ctx.tray c.args.ctx.now) (g.C.Ctx.used c.args.ctx.now) (slots_of c.args.ports.now)) nowhere
           c.args.ports.now c.requires.ready.sound);
     }
 
@@ -30,7 +29,7 @@ returns-in_err-send_one-clause-did g c =
     let same = ap (source_one c.args.row c.args.size) (out_row_kept kept.same kept.rows c.args.o) in
     let e : c.from_residual.result ≡ Err c.in_err-send_one.field-0.0 = search rules in
     rw e (turn_halt 102 c.loop-turn._turn (source_one c.args.row c.args.size (out_row c.args.ports.now c.args.o)) kept c.loop-turn-test.true
-      (did_as same c.in_err-send_one.ensures.did))
+    (did_as same c.in_err-send_one.ensures.did))
 
 pub returns-then-not-branch-clause-did : goal.returns-then-not-branch-clause-did
 returns-then-not-branch-clause-did g c =
@@ -46,7 +45,7 @@ loop-turn-preserved g c =
     record {
       lent = c.in_ok-send_one.ensures.lent ∙ c.loop-turn.invariant.lent;
       goes = turn_next 102 c.loop-turn._turn (source_one c.args.row c.args.size (out_row c.args.ports.now c.args.o)) kept c.loop-turn-test.true
-        (did_gave c.if-not-branch.false (did_as same c.in_ok-send_one.ensures.did));
+          (did_gave c.if-not-branch.false (did_as same c.in_ok-send_one.ensures.did));
     }
 
 pub returns-clause-did : goal.returns-clause-did

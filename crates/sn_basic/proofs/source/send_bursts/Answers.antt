@@ -1,8 +1,8 @@
-use Rattle.std.proofs.Common.{◌≡◌, ◌∙◌, [], ℕ, ◌<◌, length, Ok, Err, ap, refl, sym, rules, arith}
+use Rattle.std.proofs.Common.{◌≡◌, ◌∙◌, [], ◌<◌, length, Err, refl, rules, arith}
 use Rattle.sn_app.specs.Apps.{source_burst, source_pull}
-use Rattle.sn_app.specs.Ports.{in_ports, in_row, ins_of, out_ports, out_row, outs_of, slots_of}
+use Rattle.sn_app.specs.Ports.{out_ports, outs_of, slots_of}
 use Rattle.sn_app.specs.World.{nowhere, world}
-use Rattle.sn_app.proofs.Looping.{at_output, did_as, did_gave, goes_start, outputs_kept, outputs_count, in_row_kept, item_end, item_halt, item_next, item_stop, out_within, out_row_kept, out_within, ready_then}
+use Rattle.sn_app.proofs.Looping.{at_output, did_as, did_gave, goes_start, outputs_count, item_end, item_halt, item_next, item_stop, out_within, out_within, ready_then}
 use Rattle.sn_basic.proofs.source.send_bursts.Goals as goal
 
 pub loop-o-init : goal.loop-o-init
@@ -10,7 +10,7 @@ unfolding source_pull
 loop-o-init g c = record {
   lent = refl;
   goes = goes_start (source_pull c.args.row c.args.size (out_ports c.args.ports.now))
-    (world (g.C.Ctx.tray c.args.ctx.now) (g.C.Ctx.used c.args.ctx.now) (slots_of c.args.ports.now)) nowhere c.args.ports.now c.requires.ready.sound;
+      (world (g.C.Ctx.tray c.args.ctx.now) (g.C.Ctx.used c.args.ctx.now) (slots_of c.args.ports.now)) nowhere c.args.ports.now c.requires.ready.sound;
 }
 
 pub send_burst-requires-clause-ready : goal.send_burst-requires-clause-ready
@@ -26,7 +26,7 @@ returns-in_err-send_burst-clause-did g c =
     let within : c.loop-o.o < length (outs_of ports) = omega (arith, c.outs-o-end.ensures, c.loop-o-test.true) in
     let e : c.from_residual.result ≡ Err c.in_err-send_burst.field-0.0 = search rules in
     rw e (item_halt (out_ports ports) c.loop-o.o (λ port. source_burst c.args.row c.args.size port.1) kept ([], 0) (omega (arith, within, outputs_count ports))
-      (did_as (at_output (source_burst c.args.row c.args.size) c.loop-o.o within kept.same kept.rows) c.in_err-send_burst.ensures.did))
+    (did_as (at_output (source_burst c.args.row c.args.size) c.loop-o.o within kept.same kept.rows) c.in_err-send_burst.ensures.did))
 
 pub returns-then-not-branch-clause-did : goal.returns-then-not-branch-clause-did
 returns-then-not-branch-clause-did g c =
@@ -44,7 +44,7 @@ loop-o-preserved g c =
     record {
       lent = c.in_ok-send_burst.ensures.lent ∙ c.loop-o.invariant.lent;
       goes = item_next (out_ports ports) c.loop-o.o (λ port. source_burst c.args.row c.args.size port.1) kept ([], 0) (omega (arith, within, outputs_count ports))
-        (did_gave c.if-not-branch.false (did_as (at_output (source_burst c.args.row c.args.size) c.loop-o.o within kept.same kept.rows) c.in_ok-send_burst.ensures.did));
+          (did_gave c.if-not-branch.false (did_as (at_output (source_burst c.args.row c.args.size) c.loop-o.o within kept.same kept.rows) c.in_ok-send_burst.ensures.did));
     }
 
 pub returns-clause-did : goal.returns-clause-did

@@ -1,7 +1,7 @@
 use Rattle.std.proofs.Common.{◌≡◌, drop}
 use Rattle.sn_app.specs.Apps.{source_burst, source_pull}
 use Rattle.sn_app.specs.Loops.{Goes}
-use Rattle.sn_app.specs.Ports.{in_ports, in_row, out_ports, out_row, slots_of}
+use Rattle.sn_app.specs.Ports.{out_ports, slots_of}
 use Rattle.sn_app.specs.Reader.{on_each}
 use Rattle.sn_app.specs.World.{nowhere, world}
 use Rattle.sn_basic.proofs.source.send_bursts.Given as goal

@@ -1,8 +1,8 @@
-use Rattle.std.proofs.Common.{◌≡◌, ◌∙◌, [], ℕ, ◌<◌, length, Ok, Err, ap, refl, sym, rules, arith}
+use Rattle.std.proofs.Common.{◌≡◌, ◌∙◌, [], ℕ, ◌<◌, length, Err, ap, refl, rules, arith}
 use Rattle.sn_app.specs.Apps.{split_input, move_some}
-use Rattle.sn_app.specs.Ports.{in_ports, in_row, ins_of, out_ports, out_row, outs_of, slots_of}
+use Rattle.sn_app.specs.Ports.{in_row, out_ports, out_row, outs_of, slots_of}
 use Rattle.sn_app.specs.World.{nowhere, world}
-use Rattle.sn_app.proofs.Looping.{at_output, did_as, did_gave, goes_start, outputs_kept, outputs_count, in_row_kept, item_end, item_halt, item_next, item_stop, out_within, out_ports_kept, out_row_kept, ready_then, in_within}
+use Rattle.sn_app.proofs.Looping.{at_output, did_as, did_gave, goes_start, outputs_count, in_row_kept, item_end, item_halt, item_next, item_stop, out_within, ready_then, in_within}
 use Rattle.sn_basic.proofs.split.split_input.Goals as goal
 
 pub loop-o-init : goal.loop-o-init
@@ -10,7 +10,7 @@ unfolding split_input
 loop-o-init g c = record {
   lent = refl;
   goes = goes_start (split_input c.args.app (out_ports c.args.ports.now) (in_row c.args.ports.now c.args.i))
-    (world (g.C.Ctx.tray c.args.ctx.now) (g.C.Ctx.used c.args.ctx.now) (slots_of c.args.ports.now)) nowhere c.args.ports.now c.requires.ready.sound;
+      (world (g.C.Ctx.tray c.args.ctx.now) (g.C.Ctx.used c.args.ctx.now) (slots_of c.args.ports.now)) nowhere c.args.ports.now c.requires.ready.sound;
 }
 
 pub move_some-requires-clause-ready : goal.move_some-requires-clause-ready
@@ -29,7 +29,7 @@ returns-in_err-move_some-clause-did g c =
     let within : c.loop-o.o < length (outs_of ports) = omega (arith, c.outs-o-end.ensures, c.loop-o-test.true) in
     let e : c.from_residual.result ≡ Err c.in_err-move_some.field-0.0 = search rules in
     rw e (item_halt (out_ports ports) c.loop-o.o (λ port. move_some c.args.app (in_row c.args.ports.now c.args.i) port.1) kept ([], 0) (omega (arith, within, outputs_count ports))
-      (did_as (ap (λ (r : ℕ). move_some c.args.app r (out_row c.loop-o.ports c.loop-o.o)) (in_row_kept kept.same kept.rows c.args.i) ∙ at_output (λ (r : ℕ). move_some c.args.app (in_row ports c.args.i) r) c.loop-o.o within kept.same kept.rows) c.in_err-move_some.ensures.did))
+    (did_as (ap (λ (r : ℕ). move_some c.args.app r (out_row c.loop-o.ports c.loop-o.o)) (in_row_kept kept.same kept.rows c.args.i) ∙ at_output (λ (r : ℕ). move_some c.args.app (in_row ports c.args.i) r) c.loop-o.o within kept.same kept.rows) c.in_err-move_some.ensures.did))
 
 pub returns-then-not-branch-clause-did : goal.returns-then-not-branch-clause-did
 returns-then-not-branch-clause-did g c =
@@ -47,7 +47,7 @@ loop-o-preserved g c =
     record {
       lent = c.in_ok-move_some.ensures.lent ∙ c.loop-o.invariant.lent;
       goes = item_next (out_ports ports) c.loop-o.o (λ port. move_some c.args.app (in_row c.args.ports.now c.args.i) port.1) kept ([], 0) (omega (arith, within, outputs_count ports))
-        (did_gave c.if-not-branch.false (did_as (ap (λ (r : ℕ). move_some c.args.app r (out_row c.loop-o.ports c.loop-o.o)) (in_row_kept kept.same kept.rows c.args.i) ∙ at_output (λ (r : ℕ). move_some c.args.app (in_row ports c.args.i) r) c.loop-o.o within kept.same kept.rows) c.in_ok-move_some.ensures.did));
+          (did_gave c.if-not-branch.false (did_as (ap (λ (r : ℕ). move_some c.args.app r (out_row c.loop-o.ports c.loop-o.o)) (in_row_kept kept.same kept.rows c.args.i) ∙ at_output (λ (r : ℕ). move_some c.args.app (in_row ports c.args.i) r) c.loop-o.o within kept.same kept.rows) c.in_ok-move_some.ensures.did));
     }
 
 pub returns-clause-did : goal.returns-clause-did

@@ -1,7 +1,7 @@
 use Rattle.std.proofs.Common.{◌≡◌, drop}
 use Rattle.sn_app.specs.Apps.{split_input, split_push}
 use Rattle.sn_app.specs.Loops.{Goes}
-use Rattle.sn_app.specs.Ports.{in_ports, in_row, out_ports, out_row, slots_of}
+use Rattle.sn_app.specs.Ports.{in_ports, out_ports, slots_of}
 use Rattle.sn_app.specs.Reader.{on_each}
 use Rattle.sn_app.specs.World.{nowhere, world}
 use Rattle.sn_basic.proofs.split.split_inputs.Given as goal

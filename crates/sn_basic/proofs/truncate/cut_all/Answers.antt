@@ -14,7 +14,7 @@ returns-clause-did g c =
     let once = next_of input (truncate_packet c.args.app c.args.most (out_row ports c.args.o)) in
     did_look (λ d. times (readable input d) once)
     (did_as
-      (ap (λ n. times n once)
-        (c.readable-count.ensures
-        ∙ sym (readable_is {t = g.C.Ctx.tray c.args.ctx.now} {u = g.C.Ctx.used c.args.ctx.now} ports c.args.i c.requires.ready.ins c.requires.i c.requires.ready.sound)))
-      c.handle_some.ensures.did)
+    (ap (λ n. times n once)
+    (c.readable-count.ensures
+    ∙ sym (readable_is {t = g.C.Ctx.tray c.args.ctx.now} {u = g.C.Ctx.used c.args.ctx.now} ports c.args.i c.requires.ready.ins c.requires.i c.requires.ready.sound)))
+    c.handle_some.ensures.did)

@@ -1,7 +1,7 @@
 use Rattle.std.proofs.Common.{◌≡◌, Err, rules}
 use Rattle.sn_app.specs.Apps.{input_named, output_named, pushes, staying, byte_filter, filter_push}
-use Rattle.sn_app.specs.Ports.{in_ports, in_row, out_ports, out_row, slots_of}
-use Rattle.sn_app.specs.World.{nowhere, world}
+use Rattle.sn_app.specs.Ports.{in_ports, in_row, out_ports, out_row}
+use Rattle.sn_app.specs.World.{nowhere}
 use Rattle.sn_app.proofs.AtPorts.{runs_linked, runs_no_input, runs_no_output}
 use Rattle.sn_app.proofs.Looping.{did_stays}
 use Rattle.sn_app.proofs.Making.{runs_staying, runs_staying_halt}
@@ -40,8 +40,8 @@ returns-in_err-filter_all-clause-runs g c =
     let ports = c.args.ports.now in
     let e : c.from_residual.result ≡ Err c.in_err-filter_all.field-0.0 = search rules in
     rw e (runs_linked s (input_named (in_ports ports)) (output_named (out_ports ports)) (λ input out. staying s (filter_push c.args.self.now.row c.args.self.now.offset c.args.self.now.value input out)) (in_row ports) (out_row ports)
-      c.linked_input.result c.linked_output.result c.in-Some.i c.in-Some-linked_output.o c.in-Some.is c.linked_input.ensures.row c.in-Some-linked_output.is c.linked_output.ensures.row
-      (runs_staying_halt s nowhere c.in_err-filter_all.ensures.did.runs))
+    c.linked_input.result c.linked_output.result c.in-Some.i c.in-Some-linked_output.o c.in-Some.is c.linked_input.ensures.row c.in-Some-linked_output.is c.linked_output.ensures.row
+    (runs_staying_halt s nowhere c.in_err-filter_all.ensures.did.runs))
 
 pub returns-clause-ready : goal.returns-clause-ready
 returns-clause-ready g c =

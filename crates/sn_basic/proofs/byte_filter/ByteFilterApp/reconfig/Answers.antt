@@ -13,4 +13,4 @@ returns-clause-runs g c = λ slots h.
     let s = byte_filter row c.args.self.now.offset c.args.self.now.value in
     subst (λ offset. Runs (reconfigs c.args.arg.now s) w w nowhere nowhere (Ok (byte_filter row offset c.byte_in-offset.result.1))) (sym c.byte_in-offset.ensures.offset)
     (subst (λ value. Runs (reconfigs c.args.arg.now s) w w nowhere nowhere (Ok (byte_filter row (byte_of c.args.arg.now).0 value))) (sym c.byte_in-offset.ensures.value)
-      (runs_pure (byte_filter row (byte_of c.args.arg.now).0 (byte_of c.args.arg.now).1) w nowhere))
+    (runs_pure (byte_filter row (byte_of c.args.arg.now).0 (byte_of c.args.arg.now).1) w nowhere))

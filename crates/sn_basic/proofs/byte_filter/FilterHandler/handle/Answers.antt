@@ -1,4 +1,4 @@
-use Rattle.std.proofs.Common.{◌≡◌, ◌∙◌, ◌∷◌, [], Bool, true, false, Ok, slice_get, subst, sym}
+use Rattle.std.proofs.Common.{◌≡◌, ◌∙◌, ◌∷◌, [], true, false, Ok, slice_get, subst, sym}
 use Rattle.sn_packet.specs.Hold.{among}
 use Rattle.sn_app.specs.Apps.{filter_packet, is_byte_at, sends_or_drops}
 use Rattle.sn_app.specs.Calls.{bytes_at}
@@ -21,7 +21,7 @@ returns-then-has_byte-clause-runs g c =
     let yes : is_byte_at (slice_get (bytes_at u c.args.place) c.args.self.now.offset) c.args.self.now.value ≡ true = sym c.has_byte.ensures ∙ c.if-has_byte.true in
     subst (λ b. Runs (sends_or_drops b c.args.self.now.app out packet) w z (among (c.args.place ∷ [])) nowhere (Ok true)) (sym yes)
     (runs_sends_counted (g.C.Ctx.used c.send.new.ctx) (g.C.Ctx.used c.count.new.self) (slots_of c.send.new.ports) c.args.self.now.app out packet
-      c.send.ensures.runs c.count.ensures.tray c.count.ensures.used)
+    c.send.ensures.runs c.count.ensures.tray c.count.ensures.used)
 
 pub returns-clause-runs : goal.returns-clause-runs
 unfolding filter_packet sends_or_drops
@@ -36,4 +36,4 @@ returns-clause-runs g c =
     let no : is_byte_at (slice_get (bytes_at u c.args.place) c.args.self.now.offset) c.args.self.now.value ≡ false = sym c.has_byte.ensures ∙ c.if-has_byte.false in
     subst (λ b. Runs (sends_or_drops b c.args.self.now.app out packet) w z (among (c.args.place ∷ [])) nowhere (Ok true)) (sym no)
     (runs_frees_counted v (g.C.Ctx.used c.count-2.new.self) slots c.args.self.now.app Dropped packet
-      (runs_free u v slots c.args.place c.requires.sound c.free.ensures.tray c.free.ensures.used) c.count-2.ensures.tray c.count-2.ensures.used)
+    (runs_free u v slots c.args.place c.requires.sound c.free.ensures.tray c.free.ensures.used) c.count-2.ensures.tray c.count-2.ensures.used)

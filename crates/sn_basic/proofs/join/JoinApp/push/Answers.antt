@@ -31,7 +31,7 @@ returns-in_err-join_inputs-clause-runs g c =
     let ports = c.args.ports.now in
     let e : c.from_residual.result ≡ Err c.in_err-join_inputs.field-0.0 = search rules in
     rw e (runs_linked_port s (out_named (out_ports ports)) (λ out. staying s (join_push c.args.self.now.row (in_ports ports) out)) (out_row ports)
-      c.linked_out.result c.in-Some.o c.in-Some.is c.linked_out.ensures.row (runs_staying_halt s nowhere c.in_err-join_inputs.ensures.did.runs))
+    c.linked_out.result c.in-Some.o c.in-Some.is c.linked_out.ensures.row (runs_staying_halt s nowhere c.in_err-join_inputs.ensures.did.runs))
 
 pub returns-clause-ready : goal.returns-clause-ready
 returns-clause-ready g c =

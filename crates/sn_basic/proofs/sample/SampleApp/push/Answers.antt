@@ -1,8 +1,7 @@
 use Rattle.std.proofs.Common.{◌≡◌, Err, rules}
-use Rattle.sn_app.specs.Apps.{input_named, output_named, pushes, staying, sample, sample_push}
-use Rattle.sn_app.specs.Ports.{in_ports, in_row, out_ports, out_row, slots_of}
+use Rattle.sn_app.specs.Apps.{input_named, output_named, pushes, sample, sample_push}
+use Rattle.sn_app.specs.Ports.{in_ports, in_row, out_ports, out_row}
 use Rattle.sn_app.specs.Reader.{pure, ◌>>=◌}
-use Rattle.sn_app.specs.World.{nowhere, world}
 use Rattle.sn_app.proofs.AtPorts.{runs_linked, runs_no_input, runs_no_output}
 use Rattle.sn_app.proofs.Looping.{did_stays}
 use Rattle.sn_app.proofs.Handling.{did_fails, did_gives}
@@ -41,8 +40,8 @@ returns-in_err-seen-clause-runs g c =
     let ports = c.args.ports.now in
     let e : c.from_residual.result ≡ Err c.in_err-seen.field-0.0 = search rules in
     rw e (runs_linked s (input_named (in_ports ports)) (output_named (out_ports ports)) (λ input out. sample_push c.args.self.now.row c.args.self.now.n input out c.args.self.now.seen >>= (λ now. pure (sample c.args.self.now.row c.args.self.now.n now))) (in_row ports) (out_row ports)
-      c.linked_input.result c.linked_output.result c.in-Some.i c.in-Some-linked_output.o c.in-Some.is c.linked_input.ensures.row c.in-Some-linked_output.is c.linked_output.ensures.row
-      (did_fails (λ now. pure (sample c.args.self.now.row c.args.self.now.n now)) c.in_err-seen.ensures.did).runs)
+    c.linked_input.result c.linked_output.result c.in-Some.i c.in-Some-linked_output.o c.in-Some.is c.linked_input.ensures.row c.in-Some-linked_output.is c.linked_output.ensures.row
+    (did_fails (λ now. pure (sample c.args.self.now.row c.args.self.now.n now)) c.in_err-seen.ensures.did).runs)
 
 pub returns-clause-ready : goal.returns-clause-ready
 returns-clause-ready g c =

@@ -27,7 +27,7 @@ returns-clause-runs g c =
     let later = world (g.C.Ctx.tray c.send.new.ctx) (g.C.Ctx.used c.send.new.ctx) (slots_of c.send.new.ports) in
     let now = world (g.C.Ctx.tray c.shorten.new.ctx) v slots in
     let sent = subst (λ packet. Runs (sends out packet) now later (among (place ∷ [])) nowhere (Ok tt))
-      (rewritten_packet u v slots place bytes c.shorten.ensures.tray c.shorten.ensures.used) c.send.ensures.runs in
+    (rewritten_packet u v slots place bytes c.shorten.ensures.tray c.shorten.ensures.used) c.send.ensures.runs in
     runs_rewritten u v slots place bytes c.shorten.ensures.tray c.shorten.ensures.used c.requires.sound
     (runs_sends_counted (g.C.Ctx.used c.send.new.ctx) (g.C.Ctx.used c.count.new.self) (slots_of c.send.new.ports) c.args.self.now.app out
-      (with_bytes bytes (packet_at u place)) sent c.count.ensures.tray c.count.ensures.used)
+    (with_bytes bytes (packet_at u place)) sent c.count.ensures.tray c.count.ensures.used)
