@@ -33,7 +33,6 @@ fn main(rt: HostRuntime) -> io::Result<()> {
     let alloc = rt.alloc();
     let (lane, mut tx, mut rx) = Interlink::new(alloc)?;
     let mut packets = make_packets(alloc, pool)?;
-    let mut ended = 0;
     for _ in 0..sessions {
         let Some((next_tx, next_rx, came)) = session(&rt, alloc, &lane, tx, rx, packets)? else {
             println!(rt; "an end didn't come up")?;
@@ -42,9 +41,8 @@ fn main(rt: HostRuntime) -> io::Result<()> {
         tx = next_tx;
         rx = next_rx;
         packets = came;
-        ended += 1;
     }
     let whole = all_came(&packets, pool, sessions);
-    println!(rt; "{ended} sessions of {pool} packets, all as they were put: {whole}")?;
+    println!(rt; "{sessions} sessions of {pool} packets, all as they were put: {whole}")?;
     Ok(())
 }
