@@ -39,7 +39,7 @@ tray_of scripted stops free end = record {
 packet : PacketState
 packet = record { number = 7; turn = 3; bytes = 1 ∷ 2 ∷ [] }
 
--- one packet waits at the link of row 0; rows 1 and 2 are empty
+-- one packet waits at the first link; two more links are empty
 waiting : ℕ → Option Queue
 waiting zero = Some (record { packets = packet ∷ []; counts = no_counts })
 waiting (suc zero) = Some no_queue

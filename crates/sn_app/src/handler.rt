@@ -59,8 +59,8 @@ pub fn handle_next<C: Ctx, H: Handler<C>>(
     requires ready { IsReady (H.app handler.now) (C.tray ctx.old) (C.used ctx.old) ports.old }
     requires fits { H.fits handler.now ports.old }
     requires i { i < length (ins_of ports.old) }
-    ensures did { Did (next_of (in_row ports.old i) (H.handles handler.now ports.old)) (C.tray ctx.old) (C.tray ctx.new)
-        (C.used ctx.old) (C.used ctx.new) ports.old ports.new result }
+    ensures did { Did (next_of (in_row ports.old i) (H.handles handler.now ports.old))
+        (C.tray ctx.old) (C.tray ctx.new) (C.used ctx.old) (C.used ctx.new) ports.old ports.new result }
     ensures lent { C.lender ctx.new ≡ C.lender ctx.old }
 {
     match take(ctx, ports, i) {
@@ -83,8 +83,8 @@ pub fn handle_some<C: Ctx, H: Handler<C>>(
     requires ready { IsReady (H.app handler.now) (C.tray ctx.old) (C.used ctx.old) ports.old }
     requires fits { H.fits handler.now ports.old }
     requires i { i < length (ins_of ports.old) }
-    ensures did { Did (times count (next_of (in_row ports.old i) (H.handles handler.now ports.old))) (C.tray ctx.old) (C.tray ctx.new)
-        (C.used ctx.old) (C.used ctx.new) ports.old ports.new result }
+    ensures did { Did (times count (next_of (in_row ports.old i) (H.handles handler.now ports.old)))
+        (C.tray ctx.old) (C.tray ctx.new) (C.used ctx.old) (C.used ctx.new) ports.old ports.new result }
     ensures lent { C.lender ctx.new ≡ C.lender ctx.old }
 {
     for _turn in 0..count {

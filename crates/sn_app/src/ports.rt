@@ -98,7 +98,8 @@ impl<'a> Ports<'a> {
         requires i { i < length (ins_of self.old) }
         requires links { HasInputs self.old }
         ensures place { result ≡ front_of (in_line self.old i) }
-        ensures slots { slots_of self.new ≡ slice_set (slots_of self.old) (in_key self.old i) (Some (received (in_line self.old i))) }
+        ensures slots { slots_of self.new
+            ≡ slice_set (slots_of self.old) (in_key self.old i) (Some (received (in_line self.old i))) }
         ensures same { SamePorts self.old self.new }
     {
         let key = key_of(self.ins, i);
@@ -120,7 +121,8 @@ impl<'a> Ports<'a> {
         requires o { o < length (outs_of self.old) }
         requires links { HasOutputs self.old }
         ensures back { result ≡ handed_back place (out_line self.old o) }
-        ensures slots { slots_of self.new ≡ slice_set (slots_of self.old) (out_key self.old o) (Some (transmitted place len (out_line self.old o))) }
+        ensures slots { slots_of self.new
+            ≡ slice_set (slots_of self.old) (out_key self.old o) (Some (transmitted place len (out_line self.old o))) }
         ensures same { SamePorts self.old self.new }
     {
         let key = key_of(self.outs, o);

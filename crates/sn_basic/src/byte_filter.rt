@@ -68,7 +68,8 @@ fn filter_all<C: Ctx>(
     requires ready { IsReady filter.now.app (C.tray ctx.old) (C.used ctx.old) ports.old }
     requires i { i < length (ins_of ports.old) }
     requires o { filter.now.o < length (outs_of ports.old) }
-    ensures did { Did (filter_push filter.now.app filter.now.offset filter.now.value (in_row ports.old i) (out_row ports.old filter.now.o))
+    ensures did { Did
+        (filter_push filter.now.app filter.now.offset filter.now.value (in_row ports.old i) (out_row ports.old filter.now.o))
         (C.tray ctx.old) (C.tray ctx.new) (C.used ctx.old) (C.used ctx.new) ports.old ports.new result }
     ensures lent { C.lender ctx.new ≡ C.lender ctx.old }
 {

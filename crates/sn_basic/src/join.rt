@@ -15,8 +15,8 @@ use sn_names::{Arg, Class};
 fn join_inputs<C: Ctx>(app: u32, ctx: &mut C, ports: &mut Ports<'_>, o: usize) -> Result<bool, Halt>
     requires ready { IsReady app (C.tray ctx.old) (C.used ctx.old) ports.old }
     requires o { o < length (outs_of ports.old) }
-    ensures did { Did (join_push app (in_ports ports.old) (out_row ports.old o)) (C.tray ctx.old) (C.tray ctx.new)
-        (C.used ctx.old) (C.used ctx.new) ports.old ports.new result }
+    ensures did { Did (join_push app (in_ports ports.old) (out_row ports.old o))
+        (C.tray ctx.old) (C.tray ctx.new) (C.used ctx.old) (C.used ctx.new) ports.old ports.new result }
     ensures lent { C.lender ctx.new ≡ C.lender ctx.old }
 {
     for i in 0..ports.ins() {

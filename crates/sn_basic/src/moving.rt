@@ -29,7 +29,8 @@ impl<C: Ctx> Handler<C> for Forward {
 
     ghost fits_later = { λ it from to same rows fits. within_later from to it.o same fits };
 
-    ghost handles_later = { λ it from to same rows. outputs_stay (λ out packet. sends_counted it.app out packet) from to it.o same rows };
+    ghost handles_later = { λ it from to same rows.
+        outputs_stay (λ out packet. sends_counted it.app out packet) from to it.o same rows };
 }
 
 /// The lesser of two numbers.
@@ -50,8 +51,8 @@ pub(crate) fn move_some<C: Ctx>(
     requires ready { IsReady app (C.tray ctx.old) (C.used ctx.old) ports.old }
     requires i { i < length (ins_of ports.old) }
     requires o { o < length (outs_of ports.old) }
-    ensures did { Did (move_some_of app (in_row ports.old i) (out_row ports.old o)) (C.tray ctx.old) (C.tray ctx.new)
-        (C.used ctx.old) (C.used ctx.new) ports.old ports.new result }
+    ensures did { Did (move_some_of app (in_row ports.old i) (out_row ports.old o))
+        (C.tray ctx.old) (C.tray ctx.new) (C.used ctx.old) (C.used ctx.new) ports.old ports.new result }
     ensures lent { C.lender ctx.new ≡ C.lender ctx.old }
 {
     let count = ports.readable(i);

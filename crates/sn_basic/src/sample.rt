@@ -64,8 +64,8 @@ fn sample_some<C: Ctx>(
     requires some { 1 ≤ n }
     requires i { i < length (ins_of ports.old) }
     requires o { o < length (outs_of ports.old) }
-    ensures did { Did (stepping count (sample_one app n (in_row ports.old i) (out_row ports.old o)) seen) (C.tray ctx.old) (C.tray ctx.new)
-        (C.used ctx.old) (C.used ctx.new) ports.old ports.new result }
+    ensures did { Did (stepping count (sample_one app n (in_row ports.old i) (out_row ports.old o)) seen)
+        (C.tray ctx.old) (C.tray ctx.new) (C.used ctx.old) (C.used ctx.new) ports.old ports.new result }
     ensures lent { C.lender ctx.new ≡ C.lender ctx.old }
 {
     let mut now = seen;
@@ -99,8 +99,8 @@ fn sample_all<C: Ctx>(
     requires some { 1 ≤ n }
     requires i { i < length (ins_of ports.old) }
     requires o { o < length (outs_of ports.old) }
-    ensures did { Did (sample_push app n (in_row ports.old i) (out_row ports.old o) seen) (C.tray ctx.old) (C.tray ctx.new)
-        (C.used ctx.old) (C.used ctx.new) ports.old ports.new result }
+    ensures did { Did (sample_push app n (in_row ports.old i) (out_row ports.old o) seen)
+        (C.tray ctx.old) (C.tray ctx.new) (C.used ctx.old) (C.used ctx.new) ports.old ports.new result }
     ensures lent { C.lender ctx.new ≡ C.lender ctx.old }
 {
     let count = ports.readable(i);

@@ -38,8 +38,8 @@ impl<C: Ctx> Handler<C> for Discard {
 fn take_all<C: Ctx>(app: u32, ctx: &mut C, ports: &mut Ports<'_>, i: usize) -> Result<bool, Halt>
     requires ready { IsReady app (C.tray ctx.old) (C.used ctx.old) ports.old }
     requires i { i < length (ins_of ports.old) }
-    ensures did { Did (sink_all app (in_row ports.old i)) (C.tray ctx.old) (C.tray ctx.new) (C.used ctx.old) (C.used ctx.new)
-        ports.old ports.new result }
+    ensures did { Did (sink_all app (in_row ports.old i))
+        (C.tray ctx.old) (C.tray ctx.new) (C.used ctx.old) (C.used ctx.new) ports.old ports.new result }
     ensures lent { C.lender ctx.new ≡ C.lender ctx.old }
 {
     let count = ports.readable(i);
@@ -49,8 +49,8 @@ fn take_all<C: Ctx>(app: u32, ctx: &mut C, ports: &mut Ports<'_>, i: usize) -> R
 /// All that the inputs have, in turn.
 fn take_inputs<C: Ctx>(app: u32, ctx: &mut C, ports: &mut Ports<'_>) -> Result<bool, Halt>
     requires ready { IsReady app (C.tray ctx.old) (C.used ctx.old) ports.old }
-    ensures did { Did (sink_push app (in_ports ports.old)) (C.tray ctx.old) (C.tray ctx.new) (C.used ctx.old) (C.used ctx.new)
-        ports.old ports.new result }
+    ensures did { Did (sink_push app (in_ports ports.old))
+        (C.tray ctx.old) (C.tray ctx.new) (C.used ctx.old) (C.used ctx.new) ports.old ports.new result }
     ensures lent { C.lender ctx.new ≡ C.lender ctx.old }
 {
     for i in 0..ports.ins() {

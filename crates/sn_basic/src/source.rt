@@ -28,8 +28,8 @@ fn send_one<C: Ctx>(
     requires ready { IsReady row (C.tray ctx.old) (C.used ctx.old) ports.old }
     requires size { size ≤ most_bytes }
     requires o { o < length (outs_of ports.old) }
-    ensures did { Did (source_one row size (out_row ports.old o)) (C.tray ctx.old) (C.tray ctx.new) (C.used ctx.old) (C.used ctx.new)
-        ports.old ports.new result }
+    ensures did { Did (source_one row size (out_row ports.old o))
+        (C.tray ctx.old) (C.tray ctx.new) (C.used ctx.old) (C.used ctx.new) ports.old ports.new result }
     ensures lent { C.lender ctx.new ≡ C.lender ctx.old }
 {
     let Some(place) = ctx.allocate()? else {
@@ -53,8 +53,8 @@ fn send_burst<C: Ctx>(
     requires ready { IsReady row (C.tray ctx.old) (C.used ctx.old) ports.old }
     requires size { size ≤ most_bytes }
     requires o { o < length (outs_of ports.old) }
-    ensures did { Did (source_burst row size (out_row ports.old o)) (C.tray ctx.old) (C.tray ctx.new) (C.used ctx.old) (C.used ctx.new)
-        ports.old ports.new result }
+    ensures did { Did (source_burst row size (out_row ports.old o))
+        (C.tray ctx.old) (C.tray ctx.new) (C.used ctx.old) (C.used ctx.new) ports.old ports.new result }
     ensures lent { C.lender ctx.new ≡ C.lender ctx.old }
 {
     for _turn in 0..MOST_PULLED {
@@ -74,8 +74,8 @@ fn send_bursts<C: Ctx>(
 ) -> Result<bool, Halt>
     requires ready { IsReady row (C.tray ctx.old) (C.used ctx.old) ports.old }
     requires size { size ≤ most_bytes }
-    ensures did { Did (source_pull row size (out_ports ports.old)) (C.tray ctx.old) (C.tray ctx.new) (C.used ctx.old) (C.used ctx.new)
-        ports.old ports.new result }
+    ensures did { Did (source_pull row size (out_ports ports.old))
+        (C.tray ctx.old) (C.tray ctx.new) (C.used ctx.old) (C.used ctx.new) ports.old ports.new result }
     ensures lent { C.lender ctx.new ≡ C.lender ctx.old }
 {
     for o in 0..ports.outs() {

@@ -15,8 +15,8 @@ use sn_names::{Arg, Class};
 fn split_input<C: Ctx>(app: u32, ctx: &mut C, ports: &mut Ports<'_>, i: usize) -> Result<bool, Halt>
     requires ready { IsReady app (C.tray ctx.old) (C.used ctx.old) ports.old }
     requires i { i < length (ins_of ports.old) }
-    ensures did { Did (split_input_of app (out_ports ports.old) (in_row ports.old i)) (C.tray ctx.old) (C.tray ctx.new)
-        (C.used ctx.old) (C.used ctx.new) ports.old ports.new result }
+    ensures did { Did (split_input_of app (out_ports ports.old) (in_row ports.old i))
+        (C.tray ctx.old) (C.tray ctx.new) (C.used ctx.old) (C.used ctx.new) ports.old ports.new result }
     ensures lent { C.lender ctx.new ≡ C.lender ctx.old }
 {
     for o in 0..ports.outs() {
@@ -30,8 +30,8 @@ fn split_input<C: Ctx>(app: u32, ctx: &mut C, ports: &mut Ports<'_>, i: usize) -
 /// From each input in turn.
 fn split_inputs<C: Ctx>(app: u32, ctx: &mut C, ports: &mut Ports<'_>) -> Result<bool, Halt>
     requires ready { IsReady app (C.tray ctx.old) (C.used ctx.old) ports.old }
-    ensures did { Did (split_push app (in_ports ports.old) (out_ports ports.old)) (C.tray ctx.old) (C.tray ctx.new)
-        (C.used ctx.old) (C.used ctx.new) ports.old ports.new result }
+    ensures did { Did (split_push app (in_ports ports.old) (out_ports ports.old))
+        (C.tray ctx.old) (C.tray ctx.new) (C.used ctx.old) (C.used ctx.new) ports.old ports.new result }
     ensures lent { C.lender ctx.new ≡ C.lender ctx.old }
 {
     for i in 0..ports.ins() {

@@ -50,7 +50,8 @@ impl<C: Ctx> Handler<C> for Cut {
 
     ghost fits_later = { λ it from to same rows fits. within_later from to it.o same fits };
 
-    ghost handles_later = { λ it from to same rows. outputs_stay (λ out packet. truncate_packet it.app it.most out packet) from to it.o same rows };
+    ghost handles_later = { λ it from to same rows.
+        outputs_stay (λ out packet. truncate_packet it.app it.most out packet) from to it.o same rows };
 }
 
 /// All that is readable of an input.
@@ -65,8 +66,8 @@ fn cut_all<C: Ctx>(
     requires ready { IsReady app (C.tray ctx.old) (C.used ctx.old) ports.old }
     requires i { i < length (ins_of ports.old) }
     requires o { o < length (outs_of ports.old) }
-    ensures did { Did (truncate_push app most (in_row ports.old i) (out_row ports.old o)) (C.tray ctx.old) (C.tray ctx.new)
-        (C.used ctx.old) (C.used ctx.new) ports.old ports.new result }
+    ensures did { Did (truncate_push app most (in_row ports.old i) (out_row ports.old o))
+        (C.tray ctx.old) (C.tray ctx.new) (C.used ctx.old) (C.used ctx.new) ports.old ports.new result }
     ensures lent { C.lender ctx.new ≡ C.lender ctx.old }
 {
     let count = ports.readable(i);
