@@ -29,7 +29,7 @@ pub record LaneEnd : Type 0 where
   pub side : Side
   pub state : EndState
   pub place : ℕ  -- the position that the end moves next
-  pub reach : Option ℕ  -- how many positions it may move by the far word that it loaded, where it loaded one since it came up or went
+  pub reach : Option ℕ  -- how many positions it may move by the far word, where it loaded that since it came up or went
   pub synced : Bool  -- its position is known: the transmitter's always, the receiver's from `sync` on until it is out
   pub half : Bool  -- something is laid and not published, or taken out and not released
   pub laid : List PacketState  -- what is laid and not published, at the turn before
@@ -142,7 +142,8 @@ own_place e = e.place + if_closing e.state (reach_of e)
 abbrev pub sees_room_as : EndState → ℕ → ℕ → LaneEnd → LaneEnd
 sees_room_as Out read own e = e
 sees_room_as Up read own e = record (says (Room (room_by own read)) e) { reach = Some (room_by own read); far = read }
-sees_room_as Closing read own e = record (says (Room (room_by own read)) e) { place = read; reach = Some (own - read); far = read }
+sees_room_as Closing read own e =
+    record (says (Room (room_by own read)) e) { place = read; reach = Some (own - read); far = read }
 
 -- the receiver saw packets, by the word `write` that it loaded
 abbrev pub sees_packets : ℕ → LaneEnd → LaneEnd
@@ -157,7 +158,12 @@ takes_back e = record e { laid = []; half = false }
 
 abbrev pub publishes : LaneEnd → LaneEnd
 publishes e =
-    record (says (Put e.place (map raised e.laid)) e) { laid = []; half = false; place = e.place + 1; reach = Some (reach_of e - 1) }
+    record (says (Put e.place (map raised e.laid)) e) {
+      laid = [];
+      half = false;
+      place = e.place + 1;
+      reach = Some (reach_of e - 1);
+    }
 
 -- a packet is taken, or drained; the place is released
 abbrev pub takes_out : PacketState → LaneEnd → LaneEnd
@@ -213,7 +219,8 @@ pub record Fields : Type 0 where
   pub half : Bool
 
 abbrev pub fields : Side → EndState → ℕ → ℕ → Bool → Bool → Bool → Fields
-fields side state place bound loaded synced half = record { side = side; state = state; place = place; bound = bound; loaded = loaded; synced = synced; half = half }
+fields side state place bound loaded synced half =
+    record { side = side; state = state; place = place; bound = bound; loaded = loaded; synced = synced; half = half }
 
 -- an end with these fields, which knows v, and in whose slot this lies
 abbrev pub end_as : LaneId → Fields → Known → Lying → LaneEnd

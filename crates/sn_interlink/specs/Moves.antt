@@ -65,8 +65,10 @@ moved s i n side v half w = stepped s i n (seat_of side) (out_of v.hand half) (O
 abbrev pub stayed : State Lying View → ℕ → ℕ → Side → Known → Half → Known → State Lying View
 stayed s i n side v half w = stepped s i n (seat_of side) (out_of v.hand half) (One side w) keeps
 
--- what a step leaves: the slots may be moved so, the end has those of its new hand out, and the state is where the longer history leads
-pub record Left (s : State Lying View) (hist : History) (k : Ends) (side : Side) (d : Deed) (v : Known) (half : Half) (w : Known) (i n : ℕ) : Type 0 where
+-- what a step leaves: the slots may be moved so, the end has those of its new hand out, and the state is where the longer
+-- history leads
+pub record Left (s : State Lying View) (hist : History) (k : Ends) (side : Side) (d : Deed)
+    (v : Known) (half : Half) (w : Known) (i n : ℕ) : Type 0 where
   pub valid : Valid s.homes (out_of v.hand half) (turn v.hand w.hand)
   pub carried : carried_after (out_of v.hand half) (turn v.hand w.hand) ≡ out_of w.hand idle
   pub meets : Meets (moved s i n side v half w) ((side, d) ∷ hist) parted (with_side side w k)

@@ -45,7 +45,8 @@ kept_place Tx place = place
 kept_place Rx place = None
 
 abbrev pub came_up : Side → ℕ → Known → Known
-came_up side word v = record v { log = v.log ++ Attach word ∷ []; state = Up; seen = None; place = kept_place side v.place; hand = Nothing }
+came_up side word v =
+    record v { log = v.log ++ Attach word ∷ []; state = Up; seen = None; place = kept_place side v.place; hand = Nothing }
 
 abbrev pub missed : ℕ → ℕ → Known → Known
 missed seen found v = record v { log = v.log ++ Unattached seen found ∷ []; seen = None }
@@ -57,7 +58,13 @@ place_left Up side place = place
 place_left Closing side place = place
 
 abbrev pub went : Side → ℕ → Known → Known
-went side word v = record v { log = v.log ++ Detach word ∷ []; state = state_after side word; place = place_left (state_after side word) side v.place; hand = Nothing }
+went side word v =
+    record v {
+      log = v.log ++ Detach word ∷ [];
+      state = state_after side word;
+      place = place_left (state_after side word) side v.place;
+      hand = Nothing;
+    }
 
 abbrev pub freed : Side → Known → Known
 freed side v = record v { log = v.log ++ Reset ∷ []; state = Out; place = kept_place side v.place; hand = Nothing }
@@ -77,11 +84,17 @@ abbrev pub room_by : ℕ → ℕ → ℕ
 room_by own read = min (1023 - (own - read)) (2 ^ 62 - own)
 
 abbrev pub roomed : ℕ → Known → Known
-roomed read v = record v { log = v.log ++ Room (room_by (own_of v) read) ∷ []; far = read; hand = Writing (own_of v) (own_of v + room_by (own_of v) read) }
+roomed read v =
+    record v {
+      log = v.log ++ Room (room_by (own_of v) read) ∷ [];
+      far = read;
+      hand = Writing (own_of v) (own_of v + room_by (own_of v) read);
+    }
 
 -- a closing transmitter sees what is left
 abbrev pub far_roomed : ℕ → Lying → Known → Known
-far_roomed read lying v = record v { log = v.log ++ Room (room_by (own_of v) read) ∷ []; far = read; hand = Reading read (own_of v) lying }
+far_roomed read lying v =
+    record v { log = v.log ++ Room (room_by (own_of v) read) ∷ []; far = read; hand = Reading read (own_of v) lying }
 
 abbrev pub saw : ℕ → Lying → Known → Known
 saw put lying v = record v { log = v.log ++ Seen (put - own_of v) ∷ []; far = put; hand = Reading (own_of v) put lying }
@@ -117,7 +130,8 @@ drained side lying v =
       hand = Reading (first_of v.hand + 1) (bound_of v.hand) lying;
     }
 
--- what a step of one end's seat tells: m and m' are its view, with the slots that are out, before and after, and n is the word found
+-- what a step of one end's seat tells: m and m' are its view, with the slots that are out, before and after, and n is the word
+-- found
 abbrev pub Tells : Type 1
 Tells = Step Lying → Me Lying View → ℕ → Me Lying View → Type 0
 
@@ -146,7 +160,8 @@ ResetPlay st m n m' = m' ≡ turned_to freed m
 abbrev pub SyncPlay : Tells
 SyncPlay st m n m' = (m' ≡ told (λ side. synced_at n) m) × (n ≤ 2 ^ 62)
 
--- positions to read and to put as an interlink may have them: at most 1023 packets are between them, and positions are at most 2^62
+-- positions to read and to put as an interlink may have them: at most 1023 packets are between them, and positions are at most
+-- 2^62
 pub record InRing (read put : ℕ) : Type 0 where
   pub order : read ≤ put
   pub most : put ≤ read + 1023
@@ -157,11 +172,13 @@ RoomPlay st m n m' = (m' ≡ turned_to (λ side. roomed n) m) × InRing n (own_o
 
 abbrev pub FarRoomPlay : Tells
 FarRoomPlay st m n m' =
-    (lying : Lying) × (m' ≡ turned_to (λ side. far_roomed n lying) m) × InRing n (own_of (known_of m.0)) × (n < own_of (known_of m.0) → IsSome lying)
+    (lying : Lying) × (m' ≡ turned_to (λ side. far_roomed n lying) m) × InRing n (own_of (known_of m.0))
+    × (n < own_of (known_of m.0) → IsSome lying)
 
 abbrev pub SeePlay : Tells
 SeePlay st m n m' =
-    (lying : Lying) × (m' ≡ turned_to (λ side. saw n lying) m) × InRing (own_of (known_of m.0)) n × (own_of (known_of m.0) < n → IsSome lying)
+    (lying : Lying) × (m' ≡ turned_to (λ side. saw n lying) m) × InRing (own_of (known_of m.0)) n
+    × (own_of (known_of m.0) < n → IsSome lying)
 
 abbrev pub PutPlay : Tells
 PutPlay st m n m' = m' ≡ turned_to (λ side. published (packet_of (load_of m.1))) m

@@ -69,7 +69,9 @@ read_lane tx_seat rx_seat s out =
       rx = field_read (slice_index s.words 0 % 4);
       put = slice_index s.words 1;
       read = slice_index s.words 2;
-      queue = map (option_map tag) (row (slot_at s.homes out) (slice_index s.words 2) (slice_index s.words 1 - slice_index s.words 2));
+      queue =
+          map (option_map tag)
+          (row (slot_at s.homes out) (slice_index s.words 2) (slice_index s.words 1 - slice_index s.words 2));
       laid = option_to_list (option_map (λ packet. packet.number) (slot_at s.homes out (slice_index s.words 1 % 1024)));
       closes = closer_in s.views;
     }

@@ -47,8 +47,8 @@ abbrev pub state_by : Side → EndState → List LaneEntry → Option EndState
 state_by side state [] = Some state
 state_by side state (entry ∷ entries) = option_and_then (λ next. state_by side next entries) (next_state side state entry)
 
--- Coming up and going alternate, from a word that allows it; an end closes exactly where the other one isn't up; drains stand only
--- between a closer's going and its reset, which stands once after it. At the end the end is out.
+-- Coming up and going alternate, from a word that allows it; an end closes exactly where the other one isn't up; drains stand
+-- only between a closer's going and its reset, which stands once after it. At the end the end is out.
 abbrev pub IsLife : Side → List LaneEntry → Type 0
 IsLife side log = state_by side Out log ≡ Some Out
 
@@ -122,7 +122,8 @@ pub record BeginsBetween (begins : List ℕ) (i j : ℕ) : Type 0 where
 
 -- in each session what is taken stands before what is drained
 abbrev pub TakesComeFirst : List ℕ → List Way → Type 0
-TakesComeFirst begins ways = (i j : ℕ) (side : Side) → i < j → slice_get ways i ≡ Some (by_drain side) → slice_get ways j ≡ Some by_take → BeginsBetween begins i j
+TakesComeFirst begins ways = (i j : ℕ) (side : Side) → i < j → slice_get ways i ≡ Some (by_drain side)
+    → slice_get ways j ≡ Some by_take → BeginsBetween begins i j
 
 -- how often an end came up from the word 0, and how often it set the interlink free
 abbrev pub begun_by : LaneEntry → ℕ
@@ -137,8 +138,8 @@ abbrev pub total_by : (LaneEntry → ℕ) → List LaneEntry → ℕ
 total_by f [] = 0
 total_by f (entry ∷ entries) = f entry + total_by f entries
 
--- The two logs, and the receipt's numbers: all that was put was received, position by position, each once and in order, with the same
--- number, turn and bytes
+-- The two logs, and the receipt's numbers: all that was put was received, position by position, each once and in order, with
+-- the same number, turn and bytes
 pub record Fifo (tx rx : List LaneEntry) (put taken : ℕ) : Type 0 where
   pub packets : List PacketState
   pub ways : List Way

@@ -4,7 +4,7 @@
 //! - `view`: what the seats of an interlink's table know, and the rule over its words, slots and views
 //! - `plays`: what each step on the words tells, and how the two ends are parted and joined
 //! - `answers`: what attaching and detaching answer
-//! - `end`: one end, which serves as transmitter and as receiver
+//! - `end`: one end, which serves as transmitter and as receiver, in three parts: its words, putting, taking
 //! - `interlink`: the interlink, and how it is opened
 //! - `tx_end`, `rx_end`: the transmitter and the receiver
 //! - `receipt`: the closing, and its receipt

@@ -1,6 +1,8 @@
 //! Each step on an interlink is the core's event: a law for each step, as the contract of a function that does nothing.
 
-ghost use Rattle.sn_interlink.specs.StepLaws.{LookLaw, AttachLaw, MissLaw, DetachLaw, ResetLaw, SyncLaw, RoomLaw, FarRoomLaw, SeeLaw, TakeLaw, ReleaseLaw, LayLaw, TakeBackLaw, PublishLaw, DrainTakeLaw, DrainReleaseLaw, SoundLaw};
+ghost use Rattle.sn_interlink.specs.StepLaws.{LookLaw, AttachLaw, MissLaw, DetachLaw, ResetLaw, SyncLaw, RoomLaw};
+ghost use Rattle.sn_interlink.specs.StepLaws.{FarRoomLaw, SeeLaw, TakeLaw, ReleaseLaw, LayLaw, TakeBackLaw};
+ghost use Rattle.sn_interlink.specs.StepLaws.{PublishLaw, DrainTakeLaw, DrainReleaseLaw, SoundLaw};
 
 /// Each step is its event on the lane that is read off words, slots and views, and what is read
 /// there is sound.

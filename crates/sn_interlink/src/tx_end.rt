@@ -6,7 +6,8 @@ ghost use Rattle.sn_packet.specs.Packet.{is_worn};
 ghost use Rattle.sn_interlink.specs.declared.view.EndState.TheVariants.{Out, Up, Closing};
 ghost use Rattle.sn_interlink.specs.Course.{is_down};
 ghost use Rattle.sn_interlink.specs.Plays.{room_by, InRing};
-ghost use Rattle.sn_interlink.specs.Ends.{is_on_state, reach_of, own_place, looks_at, sets_free, sees_room_as, lays, takes_back, publishes, releases};
+ghost use Rattle.sn_interlink.specs.Ends.{is_on_state, reach_of, own_place, looks_at, sets_free, sees_room_as, lays};
+ghost use Rattle.sn_interlink.specs.Ends.{takes_back, publishes, releases};
 ghost use Rattle.sn_interlink.specs.Answers.{AttachStep, DetachStep, DrainStep};
 
 use crate::answers::{Attached, Detached};
