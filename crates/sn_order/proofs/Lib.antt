@@ -1,0 +1,7 @@
+mod Sets
+mod Releases
+mod Counts
+mod Waits
+mod Placed
+mod RankedNames
+mod RanksAreNames
