@@ -339,7 +339,8 @@ pushes (tee app) ins outs = staying (tee app) (tee_push app ins outs)
 pushes (join app) ins outs = at_port (out_named outs) (join app) (λ out. staying (join app) (join_push app ins out))
 pushes (split app) ins outs = staying (split app) (split_push app ins outs)
 pushes (truncate app most) ins outs =
-    at_ports (input_named ins) (output_named outs) (truncate app most) (λ input out. staying (truncate app most) (truncate_push app most input out))
+    at_ports (input_named ins) (output_named outs) (truncate app most)
+    (λ input out. staying (truncate app most) (truncate_push app most input out))
 pushes (sample app n seen) ins outs =
     at_ports (input_named ins) (output_named outs) (sample app n seen)
     (λ input out. sample_push app n input out seen >>= (λ now. pure (sample app n now)))
@@ -358,12 +359,14 @@ pushes s ins outs = pure s
 
 -- a reader of a capture from its first record on
 unfoldable pub reads_from : ℕ → List ℕ → Meaning AppState
-reads_from app name = look (λ d. pure (pcap_reader app (payloads_of (capture_at (row_of (roster_of d.tray).captures name) d.tray))))
+reads_from app name =
+    look (λ d. pure (pcap_reader app (payloads_of (capture_at (row_of (roster_of d.tray).captures name) d.tray))))
 
 -- a writer of a file, which is emptied to its header
 unfoldable pub writes_to : ℕ → List ℕ → Meaning AppState
 writes_to app name =
-    look (λ d. row_file_start (row_of (roster_of d.tray).files name) >> pure (pcap_writer app (row_of (roster_of d.tray).files name)))
+    look (λ d. row_file_start (row_of (roster_of d.tray).files name)
+    >> pure (pcap_writer app (row_of (roster_of d.tray).files name)))
 
 unfoldable pub receives_from : ℕ → List ℕ → Meaning AppState
 receives_from app name = look (λ d. pure (receiver app (row_of (roster_of d.tray).lanes name)))

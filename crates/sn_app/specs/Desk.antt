@@ -198,7 +198,11 @@ with_queue row queue d = record d { queues = put_at row queue d.queues }
 -- a packet is sent on a link: it is the last of its queue, or dropped where that is full, and then it becomes free
 abbrev pub sent_as : Bool → ℕ → PacketState → Queue → Desk → Desk
 sent_as true row packet queue d =
-    with_queue row (Some (record { packets = queue.packets ++ packet ∷ []; counts = with_sent (length packet.bytes) queue.counts })) d
+    with_queue row (Some (record {
+      packets =
+          queue.packets ++ packet ∷ [];
+      counts = with_sent (length packet.bytes) queue.counts;
+    })) d
 sent_as false row packet queue d =
     on_tray (freed (name_of packet)) (with_queue row (Some (record queue { counts = with_dropped queue.counts })) d)
 

@@ -12,3 +12,8 @@ pub mod Ports
 pub mod Apps
 pub mod Starts
 pub mod Loops
+pub mod Bench
+pub mod Claims
+pub mod Opening
+pub mod Outputs
+pub mod Hands

@@ -9,7 +9,8 @@ use Rattle.sn_app.specs.World.{IsSound, Used, World, nowhere, world}
 use Rattle.sn_app.specs.declared.halt.Halt.{Halt}
 use Rattle.sn_app.specs.declared.ports.Ports.{Ports}
 
--- The ports are the same, the links are at their rows, the constants stayed, the world is sound, and however what is left runs, the whole runs from
+-- The ports are the same, the links are at their rows, the constants stayed, the world is sound, and however what is left runs,
+-- the whole runs from
 -- the start.
 pub record Goes {R : Type 0} (left whole : Meaning R) (start now : World) (before mine : ℕ → ℕ) (from to : Ports) : Type 0 where
   pub same : SamePorts from to

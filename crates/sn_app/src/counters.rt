@@ -1,7 +1,8 @@
 //! What apps and links have counted.
 ghost use Rattle.std.specs.Prelude.{◌≡◌, ◌<◌, IfOk, length, replicate};
 ghost use Rattle.sn_link.specs.Counts.{no_counts};
-ghost use Rattle.sn_app.specs.Counts.{app_counts, count_of, link_counts, no_app_counts, rows_kept, rows_raised, with_added, with_raised};
+ghost use Rattle.sn_app.specs.Counts.{app_counts, count_of, link_counts, no_app_counts, rows_kept, rows_raised};
+ghost use Rattle.sn_app.specs.Counts.{with_added, with_raised};
 
 use sn_link::LinkCounts;
 use std::alloc::{AllocError, Global};

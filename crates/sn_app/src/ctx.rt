@@ -1,13 +1,17 @@
 //! The context that apps run over.
-ghost use Rattle.std.specs.Prelude.{◌≡◌, ◌≢◌, ℕ, ◌-◌, ◌<◌, ◌≤◌, false, replicate, take, length, IfOk, IfSome, IfNone, IsSome, IsTrue, None, OnOk, Ok, Some, slice_get};
+ghost use Rattle.std.specs.Prelude.{◌≡◌, ◌≢◌, ℕ, ◌-◌, ◌<◌, ◌≤◌, false, replicate, take, length, IfOk, IfSome};
+ghost use Rattle.std.specs.Prelude.{IfNone, IsSome, IsTrue, None, OnOk, Ok, Some, slice_get};
 ghost use Rattle.sn_packet.specs.Hold.{put_at};
 ghost use Rattle.sn_packet.specs.Packet.{is_worn, most_bytes};
 ghost use Rattle.sn_pcap.specs.Places.{IsAtEnd, IsPlace, IsRecordOf, StandsAt, payload_of};
 ghost use Rattle.sn_app.specs.Answers.{OnTray};
-ghost use Rattle.sn_app.specs.Calls.{AfterPut, AfterTake, HasLink, HasName, IsFresh, IsUp, Knows, LeavesAllButFiles, LeavesEnds, LeavesOtherEnds, bytes_at, known_at, named, packet_there, rewritten_at, row_of, row_of_link};
+ghost use Rattle.sn_app.specs.Calls.{AfterPut, AfterTake, HasLink, HasName, IsFresh, IsUp, Knows, LeavesAllButFiles};
+ghost use Rattle.sn_app.specs.Calls.{LeavesEnds, LeavesOtherEnds, bytes_at, known_at, named, packet_there};
+ghost use Rattle.sn_app.specs.Calls.{rewritten_at, row_of, row_of_link};
 ghost use Rattle.sn_app.specs.Desk.{Tray, capture_at, counted_on, freed, is_started, kept_counts, name_of, roster_of};
 ghost use Rattle.sn_app.specs.Gates.{working};
-ghost use Rattle.sn_app.specs.Rows.{row_allocate, row_attach, row_detach, row_file_append, row_file_start, row_look, row_put, row_room, row_take};
+ghost use Rattle.sn_app.specs.Rows.{row_allocate, row_attach, row_detach, row_file_append, row_file_start, row_look};
+ghost use Rattle.sn_app.specs.Rows.{row_put, row_room, row_take};
 ghost use Rattle.sn_app.specs.World.{Used, packet_at};
 ghost use Rattle.sn_app.specs.declared.end_state.EndState.TheVariants.{Out};
 ghost use Rattle.sn_core.specs.declared.events.Side.TheVariants.{Rx, Tx};

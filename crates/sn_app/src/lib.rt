@@ -9,19 +9,42 @@
 //! - `counters`: the counts of apps and links
 //! - `ctx`: the context
 //! - `end_state`: how an end of an interlink stands
+//! - `bench`: a context over lists
+//! - `bench_ctx`: its calls as a context
+//! - `bench_claims`: how it allocates
+//! - `bench_lanes`: what it does at the ends of its interlinks
+//! - `tape`: the entries of a bench
+//! - `lanes`: the ends of its interlinks
+//! - `outputs`: its files
+//! - `roster_rows`: the rows of names
+//! - `peeks`: what an entry tells a call that may read it
+//! - `arrivals`: packets that come into it
 #![tactic(auto)]
 
 mod app;
+mod arrivals;
+mod bench;
+mod bench_claims;
+mod bench_ctx;
+mod bench_lanes;
 mod counters;
 mod ctx;
 mod end_state;
 mod halt;
 mod handler;
+mod lanes;
 mod linked;
+mod outputs;
+mod peeks;
 mod ports;
+mod roster_rows;
+mod tape;
+#[cfg(test)]
+mod tests;
 mod verbs;
 
 pub use app::App;
+pub use bench::Bench;
 pub use counters::{AppCounts, Counter, Counters};
 pub use ctx::Ctx;
 pub use end_state::EndState;

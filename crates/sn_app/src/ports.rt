@@ -1,7 +1,8 @@
 //! The ports of an app, with the links that they lead to.
 ghost use Rattle.std.specs.Prelude.{◌≡◌, ◌+◌, ◌<◌, length, Some, slice_set};
 ghost use Rattle.sn_link.specs.Link.{front_of, handed_back, most_queued, received, transmitted};
-ghost use Rattle.sn_app.specs.Ports.{HasInputs, HasOutputs, SamePorts, in_key, in_line, ins_of, key_at, out_key, out_line, outs_of, place_of, slots_of};
+ghost use Rattle.sn_app.specs.Ports.{HasInputs, HasOutputs, SamePorts, in_key, in_line, ins_of, key_at, out_key};
+ghost use Rattle.sn_app.specs.Ports.{out_line, outs_of, place_of, slots_of};
 
 use slab::Slab;
 use sn_link::Link;
