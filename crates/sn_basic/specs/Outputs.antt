@@ -5,7 +5,8 @@ use Rattle.sn_app.specs.Ports.{KeepsRows, SamePorts, out_row, outs_of, slots_of}
 use Rattle.sn_app.specs.declared.ports.Ports.{Ports}
 use Rattle.sn_app.proofs.Looping.{out_row_kept, out_within}
 
-pub outputs_stay : {A : Type 0} (f : ℕ → A) (from to : Ports) (o : ℕ) → SamePorts from to → KeepsRows (slots_of from) (slots_of to)
+pub outputs_stay : {A : Type 0} (f : ℕ → A) (from to : Ports) (o : ℕ) → SamePorts from to
+    → KeepsRows (slots_of from) (slots_of to)
     → f (out_row to o) ≡ f (out_row from o)
 outputs_stay f from to o same rows = ap f (out_row_kept same rows o)
 

@@ -1,5 +1,5 @@
 //! The class ByteFilter: passes the packets with a byte at a place.
-ghost use Rattle.std.specs.Prelude.{◌≡◌, ◌<◌, length, slice_get, IfOk, IsSome, refl};
+ghost use Rattle.std.specs.Prelude.{◌≡◌, ◌<◌, length, slice_get, IfOk, IsOk, IsSome, refl};
 ghost use Rattle.sn_app.specs.Apps.{byte_filter, byte_of, filter_packet, filter_push, is_byte_at};
 ghost use Rattle.sn_app.specs.Calls.{bytes_at};
 ghost use Rattle.sn_app.specs.Loops.{Did, IsReady};
@@ -105,6 +105,7 @@ impl ByteFilter {
     pub fn start<C: Ctx>(ctx: &mut C, row: u32, arg: &Arg) -> Result<ByteFilter, Halt>
         requires row { HasRow row (C.tray ctx.old) }
         requires arg { IsArgOf Class.ByteFilter arg.now }
+        ensures ok { IsOk result }
         ensures started { IfOk result (λ app.
             byte_filter app.row app.offset app.value ≡ byte_filter row (byte_of arg.now).0 (byte_of arg.now).1) }
         ensures same { ctx.new ≡ ctx.old }

@@ -1,5 +1,5 @@
 //! The class Join: sends what comes from every input on one output.
-ghost use Rattle.std.specs.Prelude.{◌≡◌, ◌<◌, length, IfOk, refl};
+ghost use Rattle.std.specs.Prelude.{◌≡◌, ◌<◌, length, IfOk, IsOk, refl};
 ghost use Rattle.sn_app.specs.Apps.{join, join_push};
 ghost use Rattle.sn_app.specs.Loops.{Did, IsReady};
 ghost use Rattle.sn_app.specs.Ports.{in_ports, out_row, outs_of};
@@ -20,7 +20,8 @@ fn join_inputs<C: Ctx>(app: u32, ctx: &mut C, ports: &mut Ports<'_>, o: usize) -
     ensures lent { C.lender ctx.new ≡ C.lender ctx.old }
 {
     for i in 0..ports.ins() {
-        if !move_some(app, ctx, ports, i, o)? {
+        let room = ports.room(o);
+        if !move_some(app, ctx, ports, i, o, room)? {
             return Ok(false);
         }
     }
@@ -41,6 +42,7 @@ impl Join {
     pub fn start<C: Ctx>(ctx: &mut C, row: u32, _arg: &Arg) -> Result<Join, Halt>
         requires row { HasRow row (C.tray ctx.old) }
         requires arg { IsArgOf Class.Join _arg.now }
+        ensures ok { IsOk result }
         ensures started { IfOk result (λ app. app.row ≡ row) }
         ensures same { ctx.new ≡ ctx.old }
     {

@@ -1,5 +1,5 @@
 //! The class Sample: passes every nth packet.
-ghost use Rattle.std.specs.Prelude.{◌≡◌, ◌≤◌, ◌<◌, length, IfOk, refl};
+ghost use Rattle.std.specs.Prelude.{◌≡◌, ◌≤◌, ◌<◌, length, IfOk, IsOk, refl};
 ghost use Rattle.sn_app.specs.Apps.{number_or, sample, sample_one, sample_packet, sample_push};
 ghost use Rattle.sn_app.specs.Loops.{Did, IsReady};
 ghost use Rattle.sn_app.specs.Ports.{in_row, ins_of, out_row, outs_of};
@@ -136,6 +136,7 @@ impl Sample {
     pub fn start<C: Ctx>(ctx: &mut C, row: u32, arg: &Arg) -> Result<Sample, Halt>
         requires row { HasRow row (C.tray ctx.old) }
         requires arg { IsArgOf Class.Sample arg.now }
+        ensures ok { IsOk result }
         ensures started { IfOk result (λ app. sample app.row app.n app.seen ≡ sample row (number_or 1 arg.now) 0) }
         ensures same { ctx.new ≡ ctx.old }
     {

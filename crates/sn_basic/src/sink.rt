@@ -1,5 +1,5 @@
 //! The class Sink: takes all of every input, and frees it.
-ghost use Rattle.std.specs.Prelude.{◌≡◌, ◌<◌, length, IfOk, refl};
+ghost use Rattle.std.specs.Prelude.{◌≡◌, ◌<◌, length, IfOk, IsOk, refl};
 ghost use Rattle.sn_app.specs.Apps.{sink, sink_all, sink_packet, sink_push};
 ghost use Rattle.sn_app.specs.Loops.{Did, IsReady};
 ghost use Rattle.sn_app.specs.Ports.{in_ports, in_row, ins_of};
@@ -75,6 +75,7 @@ impl Sink {
     pub fn start<C: Ctx>(ctx: &mut C, row: u32, _arg: &Arg) -> Result<Sink, Halt>
         requires row { HasRow row (C.tray ctx.old) }
         requires arg { IsArgOf Class.Sink _arg.now }
+        ensures ok { IsOk result }
         ensures started { IfOk result (λ app. app.row ≡ row) }
         ensures same { ctx.new ≡ ctx.old }
     {

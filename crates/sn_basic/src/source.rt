@@ -1,5 +1,5 @@
 //! The class Source: makes packets of zeros.
-ghost use Rattle.std.specs.Prelude.{◌≡◌, ◌<◌, ◌≤◌, length, IfOk, refl};
+ghost use Rattle.std.specs.Prelude.{◌≡◌, ◌<◌, ◌≤◌, length, IfOk, IsOk, refl};
 ghost use Rattle.sn_app.specs.Apps.{number_or, source, source_burst, source_one, source_pull, usual_size};
 ghost use Rattle.sn_app.specs.Loops.{Did, IsReady};
 ghost use Rattle.sn_app.specs.Ports.{out_ports, out_row, outs_of};
@@ -114,6 +114,7 @@ impl Source {
     pub fn start<C: Ctx>(ctx: &mut C, row: u32, arg: &Arg) -> Result<Source, Halt>
         requires row { HasRow row (C.tray ctx.old) }
         requires arg { IsArgOf Class.Source arg.now }
+        ensures ok { IsOk result }
         ensures started { IfOk result (λ app. source app.row app.size ≡ source row (number_or usual_size arg.now)) }
         ensures same { ctx.new ≡ ctx.old }
     {

@@ -1,5 +1,5 @@
 //! The class Split: deals the packets of its inputs out to its outputs.
-ghost use Rattle.std.specs.Prelude.{◌≡◌, ◌<◌, length, IfOk, refl};
+ghost use Rattle.std.specs.Prelude.{◌≡◌, ◌<◌, length, IfOk, IsOk, refl};
 ghost use Rattle.sn_app.specs.Apps.{split, split_input as split_input_of, split_push};
 ghost use Rattle.sn_app.specs.Loops.{Did, IsReady};
 ghost use Rattle.sn_app.specs.Ports.{in_ports, in_row, ins_of, out_ports};
@@ -20,7 +20,8 @@ fn split_input<C: Ctx>(app: u32, ctx: &mut C, ports: &mut Ports<'_>, i: usize) -
     ensures lent { C.lender ctx.new ≡ C.lender ctx.old }
 {
     for o in 0..ports.outs() {
-        if !move_some(app, ctx, ports, i, o)? {
+        let room = ports.room(o);
+        if !move_some(app, ctx, ports, i, o, room)? {
             return Ok(false);
         }
     }
@@ -56,6 +57,7 @@ impl Split {
     pub fn start<C: Ctx>(ctx: &mut C, row: u32, _arg: &Arg) -> Result<Split, Halt>
         requires row { HasRow row (C.tray ctx.old) }
         requires arg { IsArgOf Class.Split _arg.now }
+        ensures ok { IsOk result }
         ensures started { IfOk result (λ app. app.row ≡ row) }
         ensures same { ctx.new ≡ ctx.old }
     {

@@ -1,5 +1,5 @@
 //! The class Truncate: cuts packets to a length.
-ghost use Rattle.std.specs.Prelude.{◌≡◌, ◌<◌, ◌≤◌, length, take, IfOk, IsSome, refl};
+ghost use Rattle.std.specs.Prelude.{◌≡◌, ◌<◌, ◌≤◌, length, take, IfOk, IsOk, IsSome, refl};
 ghost use Rattle.sn_app.specs.Apps.{number_or, truncate, truncate_packet, truncate_push};
 ghost use Rattle.sn_app.specs.Calls.{bytes_at, rewritten_at};
 ghost use Rattle.sn_app.specs.Loops.{Did, IsReady};
@@ -100,6 +100,7 @@ impl Truncate {
     pub fn start<C: Ctx>(ctx: &mut C, row: u32, arg: &Arg) -> Result<Truncate, Halt>
         requires row { HasRow row (C.tray ctx.old) }
         requires arg { IsArgOf Class.Truncate arg.now }
+        ensures ok { IsOk result }
         ensures started { IfOk result (λ app. truncate app.row app.most ≡ truncate row (number_or 0 arg.now)) }
         ensures same { ctx.new ≡ ctx.old }
     {

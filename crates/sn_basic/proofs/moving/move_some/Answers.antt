@@ -15,10 +15,10 @@ returns-clause-did g c =
     let out = out_row ports c.args.o in
     let once = next_of input (sends_counted c.args.app out) in
     let here = readable_is {t = g.C.Ctx.tray c.args.ctx.now} {u = g.C.Ctx.used c.args.ctx.now} ports c.args.i c.requires.ready.ins c.requires.i c.requires.ready.sound in
-    let there = room_is {t = g.C.Ctx.tray c.args.ctx.now} {u = g.C.Ctx.used c.args.ctx.now} ports c.args.o c.room-room.result c.requires.ready.outs c.requires.o c.requires.ready.sound c.room-room.ensures in
+    let there = room_is {t = g.C.Ctx.tray c.args.ctx.now} {u = g.C.Ctx.used c.args.ctx.now} ports c.args.o c.args.room c.requires.ready.outs c.requires.o c.requires.ready.sound c.requires.room in
     did_look (λ d. times (min (readable input d) (room_on out d)) once)
     (did_as
     (ap (λ n. times n once) c.lesser-most.ensures
-    ∙ (ap (λ n. times (min n c.room-room.result) once) (c.readable-count.ensures ∙ sym here)
+    ∙ (ap (λ n. times (min n c.args.room) once) (c.readable-count.ensures ∙ sym here)
     ∙ ap (λ n. times (min (readable input (desk_of (world (g.C.Ctx.tray c.args.ctx.now) (g.C.Ctx.used c.args.ctx.now) (slots_of ports)))) n) once) (sym there)))
     c.handle_some.ensures.did)
