@@ -1,2 +1,5 @@
 pub mod Balances
 mod HoldingExample
+pub mod KeptFront
+pub mod KindPlaces
+mod TextExample
