@@ -1,6 +1,9 @@
 pub mod Cost
+pub mod Cutting
 pub mod JournalState
 pub mod JournalText
 pub mod KindWords
+pub mod LineReading
+pub mod Outline
 pub mod HandOvers
 pub mod Holding

@@ -1,7 +1,7 @@
 //! The words that the lines of a journal's text begin with.
 ghost use Rattle.sn_journal.specs.JournalText.{kind_word};
 ghost use Rattle.sn_journal.specs.KindWords.{kind_of};
-ghost use Rattle.std.specs.Prelude.{◌≡◌};
+ghost use Rattle.std.specs.Prelude.{IfSome, IsTrue, ◌≡◌};
 ghost use Rattle.std.specs.Str.{bytes_eq};
 
 /// What a line of a journal's text says. There is one word for each.
@@ -83,7 +83,8 @@ impl Kind {
     /// The kind of this word, if there is one.
     #[tactic(auto, using(crate::proofs::KindPlaces::kind_places))]
     pub(crate) fn of(text: &[u8]) -> Option<Kind>
-        ensures { result ≡ kind_of text.now }
+        ensures exact { result ≡ kind_of text.now }
+        ensures word { IfSome result (λ kind. text.now ≡ kind_word kind) }
     {
         for kind in Kind::ALL {
             if kind.is_word(text) {
@@ -95,7 +96,8 @@ impl Kind {
 
     /// Whether the text is this kind's word.
     fn is_word(self, text: &[u8]) -> bool
-        ensures { result ≡ bytes_eq text.now (kind_word self) }
+        ensures exact { result ≡ bytes_eq text.now (kind_word self) }
+        ensures word { IsTrue result → text.now ≡ kind_word self }
     {
         text == self.word().as_bytes()
     }

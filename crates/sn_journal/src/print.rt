@@ -1,5 +1,6 @@
 //! The text of a journal.
 ghost use Rattle.sn_journal.specs.JournalText.{fits, journal_text, kind_word, line_of, line_text, spaced, spelled};
+ghost use Rattle.sn_journal.specs.Outline.{IsOutline};
 ghost use Rattle.std.specs.List.{list_all};
 ghost use Rattle.std.specs.Prelude.{OnErr, OnOk, length, map, take, true, ◌++◌, ◌≡◌};
 
@@ -122,7 +123,7 @@ impl Journal {
     pub fn print(&self, into: &mut Vec<u8>) -> Result<(), AllocError>
         ensures ok { OnOk result (into.new.items ≡ into.old.items ++ journal_text self.now.entries) }
         ensures err { OnErr result (into.new.items ≡ into.old.items) }
-        ensures fits { OnOk result (list_all fits (map line_of self.now.entries) ≡ true) }
+        ensures reads_back { OnOk result (IsOutline (journal_text self.now.entries) (map line_of self.now.entries)) }
     {
         let start = into.len();
         match push_entries(into, self.entries()) {
