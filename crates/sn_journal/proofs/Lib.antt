@@ -4,6 +4,7 @@ pub mod Digits
 pub mod Fronts
 pub mod KeptFront
 pub mod KindPlaces
+pub mod LineCuts
 pub mod LineKinds
 pub mod LineNumbers
 pub mod LineTexts

@@ -85,7 +85,7 @@ line_read line e =
     ∙ line_found line e
 
 -- a line's text is its bytes and the byte 10
-line_ended : (line : Line) (rest : List ℕ) → line_text line ++ rest ≡ line_bytes line ++ 10 ∷ rest
+pub line_ended : (line : Line) (rest : List ℕ) → line_text line ++ rest ≡ line_bytes line ++ 10 ∷ rest
 unfolding spelled
 line_ended line rest =
     let word = kind_word (line_kind line) in
@@ -94,7 +94,7 @@ line_ended line rest =
     ∙ ap (λ t. word ++ t) (append_assoc ns (10 ∷ []) rest)
     ∙ sym (append_assoc word ns (10 ∷ rest))
 
-bytes_plain : (line : Line) → fits line ≡ true → list_all is_no_feed (line_bytes line) ≡ true
+pub bytes_plain : (line : Line) → fits line ≡ true → list_all is_no_feed (line_bytes line) ≡ true
 bytes_plain line e =
     all_append is_no_feed (kind_word (line_kind line)) (spaced (line_numbers line))
     (word_plain (line_kind line)).1 (spaced_plain (line_numbers line) (numbers_wide line e))

@@ -1,14 +1,19 @@
 -- A text has one outline, or one first fault.
-use Rattle.std.proofs.Common.{List, None, Some, [], ap, append_assoc, arith, drop, length, refl, sym, true, ℕ, ◌++◌, ◌+◌, ◌<◌, ◌∙◌, ◌∷◌, ◌≡◌}
+use Rattle.std.proofs.Common.{List, None, Some, [], ap, append_assoc, arith, drop, length, map, refl, subst, sym, true, ℕ, ◌++◌, ◌+◌, ◌<◌, ◌∙◌, ◌∷◌, ◌≡◌}
 use Rattle.std.proofs.lemmas.Bool.{and_from, and_parts}
-use Rattle.std.proofs.lemmas.List.{append-nil}
-use Rattle.std.specs.List.{list_all}
+use Rattle.std.proofs.lemmas.List.{append-nil, length-map}
+use Rattle.std.specs.List.{concat, list_all}
 use Rattle.sn_journal.specs.Cutting.{behind, front, is_no_feed, read_line}
 use Rattle.sn_journal.specs.JournalText.{fits, line_text, lines_text}
-use Rattle.sn_journal.specs.Outline.{IsFaulty, IsFirstFault, IsOutline}
+use Rattle.sn_journal.specs.Outline.{IsFirstFault, IsOutline, cut_lines}
 use Rattle.sn_journal.specs.declared.fault.OutlineFault.TheVariants as OutlineFault
 use Rattle.sn_journal.specs.declared.line.Line.{Line}
+use Rattle.sn_journal.proofs.LineCuts.{all_formed, cut_behind, first_cut, no_fault}
 use Rattle.sn_journal.proofs.LineTexts.{first_behind, first_read}
+
+-- the text begins with no line of the form
+abbrev pub IsFaulty : List ℕ → Type 0
+IsFaulty text = (line : Line) (rest : List ℕ) → fits line ≡ true → text ≡ line_text line ++ rest → ⊥
 
 -- two texts that begin with lines are equal only where the lines are, and what follows them
 one_line : (a b : Line) (x y : List ℕ) → fits a ≡ true → fits b ≡ true → line_text a ++ x ≡ line_text b ++ y → (a ≡ b) × (x ≡ y)
@@ -60,16 +65,7 @@ one_outline text these those a b =
 
 -- a text with a first fault has none
 pub no_outline : (text : List ℕ) (n : ℕ) (lines : List Line) → IsFirstFault text n → IsOutline text lines → ⊥
-no_outline text n lines fault read =
-    let none = (alike fault.before lines fault.rest [] fault.fit read.fit fault.faulty faulty-nil
-    (sym fault.spelled ∙ read.spelled ∙ sym (append-nil (lines_text lines)))).1 in
-    omega (arith, ap length none, fault.some)
-
--- and one first fault
-pub one_fault : (text : List ℕ) (m n : ℕ) → IsFirstFault text m → IsFirstFault text n → m ≡ n
-one_fault text m n a b =
-    let same = (alike a.before b.before a.rest b.rest a.fit b.fit a.faulty b.faulty (sym a.spelled ∙ b.spelled)).0 in
-    omega (arith, ap length same, a.counted, b.counted)
+no_outline text n lines fault read = no_fault lines n read.fit (subst (λ t. IsFirstFault t n) read.spelled fault)
 
 lines_text-push : (lines : List Line) (line : Line) → lines_text (lines ++ line ∷ []) ≡ lines_text lines ++ line_text line
 lines_text-push [] line = append-nil (line_text line)
@@ -110,4 +106,17 @@ pub fault_at : (text rest : List ℕ) (lines : List Line) (m n : ℕ) → text �
     → length lines + 1 ≡ m → OutlineFault.Line m ≡ OutlineFault.Line n → 0 < length rest → IsFaulty rest → IsFirstFault text n
 fault_at text rest lines m n read all counted told some faulty =
     let same : m ≡ n = cc in
-    record { before = lines; rest = rest; spelled = read; fit = all; counted = counted ∙ same; some = some; faulty = faulty }
+    let first = first_cut rest some in
+    record {
+      before = map line_text lines;
+      bytes = first.first;
+      behind = first.more;
+      cut =
+        ap cut_lines read
+        ∙ cut_behind lines rest all
+        ∙ ap (λ (cut : List (List ℕ)). map line_text lines ++ cut) first.cut;
+      counted = omega (arith, length-map lines line_text, counted, same);
+      formed = all_formed lines all;
+      faulty = λ formed. faulty formed.line (concat first.more) formed.fit (
+        first.begins ∙ ap (λ (t : List ℕ). t ++ concat first.more) formed.spelled);
+    }

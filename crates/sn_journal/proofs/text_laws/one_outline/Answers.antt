@@ -1,4 +1,5 @@
-use Rattle.sn_journal.proofs.Outlines.{no_outline, one_fault, one_outline}
+use Rattle.sn_journal.proofs.LineCuts.{one_fault}
+use Rattle.sn_journal.proofs.Outlines.{no_outline, one_outline}
 use Rattle.sn_journal.proofs.text_laws.one_outline.Goals as goal
 
 pub returns-clause-lines : goal.returns-clause-lines
