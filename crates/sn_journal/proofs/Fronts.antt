@@ -45,13 +45,15 @@ behind_stops p [] h = refl
 behind_stops p (x ∷ xs) h = ap (λ b. cond b (behind p xs) (x ∷ xs)) h
 
 -- a word of bytes that pass, and behind it one that doesn't, or nothing
-pub front_word : (p : ℕ → Bool) (word rest : List ℕ) → list_all p word ≡ true → starts p rest ≡ false → front p (word ++ rest) ≡ word
+pub front_word : (p : ℕ → Bool) (word rest : List ℕ) → list_all p word ≡ true → starts p rest ≡ false
+    → front p (word ++ rest) ≡ word
 front_word p [] rest all h = front_stops p rest h
 front_word p (x ∷ xs) rest all h =
     let a = and_parts (p x) (list_all p xs) all in
     ap (λ b. cond b (x ∷ front p (xs ++ rest)) []) a.0 ∙ ap (λ ys. x ∷ ys) (front_word p xs rest a.1 h)
 
-pub behind_word : (p : ℕ → Bool) (word rest : List ℕ) → list_all p word ≡ true → starts p rest ≡ false → behind p (word ++ rest) ≡ rest
+pub behind_word : (p : ℕ → Bool) (word rest : List ℕ) → list_all p word ≡ true → starts p rest ≡ false
+    → behind p (word ++ rest) ≡ rest
 behind_word p [] rest all h = behind_stops p rest h
 behind_word p (x ∷ xs) rest all h =
     let a = and_parts (p x) (list_all p xs) all in

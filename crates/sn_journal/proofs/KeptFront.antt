@@ -4,7 +4,9 @@ use Rattle.std.proofs.lemmas.List.{append-nil, length-take, take-append-le}
 use Rattle.std.proofs.Math.Seq.{take-append_seam}
 
 fits_in : (old now : List ℕ) → take (length old) now ≡ old → length old ≤ length now
-fits_in old now kept = let size : min (length old) (length now) ≡ length old = sym (length-take (length old) now) ∙ ap length kept in omega (arith, size)
+fits_in old now kept =
+    let size : min (length old) (length now) ≡ length old = sym (length-take (length old) now) ∙ ap length kept in
+    omega (arith, size)
 
 -- all of it does, where nothing came behind it
 pub kept_first : (old : List ℕ) → take (length old) old ≡ old

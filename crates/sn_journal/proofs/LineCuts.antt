@@ -1,5 +1,5 @@
 -- A text cut into lines.
-use Rattle.std.proofs.Common.{Bool, List, [], ap, append_assoc, arith, cond, false, length, map, refl, subst, suc, sym, true, zero, ℕ, ◌+◌, ◌++◌, ◌<◌, ◌==◌, ◌∙◌, ◌∷◌, ◌≡◌}
+use Rattle.std.proofs.Common.{Bool, List, [], ap, append_assoc, arith, cond, false, length, map, refl, subst, suc, sym, true, zero, ℕ, ◌++◌, ◌<◌, ◌==◌, ◌∙◌, ◌∷◌, ◌≡◌}
 use Rattle.std.proofs.lemmas.Bool.{and_parts}
 use Rattle.std.proofs.lemmas.Bool.Decides.{nat_tests}
 use Rattle.std.proofs.lemmas.List.{append-nil}
@@ -88,7 +88,8 @@ pub record FirstCut (text : List ℕ) : Type 0 where
   pub begins : text ≡ first ++ concat more
 
 first_of : (text : List ℕ) (lines : List (List ℕ)) → 0 < length text → cut_lines text ≡ lines → FirstCut text
-first_of text [] some cut = let none : [] ≡ text = sym (ap concat cut) ∙ cut_joined text in absurd (omega (arith, ap length none, some))
+first_of text [] some cut =
+    let none : [] ≡ text = sym (ap concat cut) ∙ cut_joined text in absurd (omega (arith, ap length none, some))
 first_of text (line ∷ lines) some cut =
     record { first = line; more = lines; cut = cut; begins = sym (cut_joined text) ∙ ap concat cut }
 
@@ -96,18 +97,23 @@ pub first_cut : (text : List ℕ) → 0 < length text → FirstCut text
 first_cut text some = first_of text (cut_lines text) some refl
 
 -- a text has one first line that isn't of the form
-alone : (before others : List (List ℕ)) (bytes other : List ℕ) (behind after : List (List ℕ)) → All IsFormed before → All IsFormed others
-    → (IsFormed bytes → ⊥) → (IsFormed other → ⊥) → before ++ bytes ∷ behind ≡ others ++ other ∷ after → length before ≡ length others
+alone : (before others : List (List ℕ)) (bytes other : List ℕ) (behind after : List (List ℕ)) → All IsFormed before
+    → All IsFormed others
+    → (IsFormed bytes → ⊥) → (IsFormed other → ⊥) → before ++ bytes ∷ behind ≡ others ++ other ∷ after
+    → length before ≡ length others
 alone [] [] bytes other behind after p q f g e = refl
-alone [] (b ∷ others) bytes other behind after p q f g e = let same : b ≡ bytes = cc in absurd (f (subst IsFormed same (formed_first b others q)))
-alone (a ∷ before) [] bytes other behind after p q f g e = let same : a ≡ other = cc in absurd (g (subst IsFormed same (formed_first a before p)))
+alone [] (b ∷ others) bytes other behind after p q f g e =
+    let same : b ≡ bytes = cc in absurd (f (subst IsFormed same (formed_first b others q)))
+alone (a ∷ before) [] bytes other behind after p q f g e =
+    let same : a ≡ other = cc in absurd (g (subst IsFormed same (formed_first a before p)))
 alone (a ∷ before) (b ∷ others) bytes other behind after p q f g e =
     let more : before ++ bytes ∷ behind ≡ others ++ other ∷ after = cc in
     omega (arith, alone before others bytes other behind after (formed_rest a before p) (formed_rest b others q) f g more)
 
 pub one_fault : (text : List ℕ) (m n : ℕ) → IsFirstFault text m → IsFirstFault text n → m ≡ n
 one_fault text m n a b =
-    let same = alone a.before b.before a.bytes b.bytes a.behind b.behind a.formed b.formed a.faulty b.faulty (sym a.cut ∙ b.cut) in
+    let cut = sym a.cut ∙ b.cut in
+    let same = alone a.before b.before a.bytes b.bytes a.behind b.behind a.formed b.formed a.faulty b.faulty cut in
     omega (arith, same, a.counted, b.counted)
 
 -- lines of the form alone have none
@@ -115,16 +121,19 @@ none_faulty : (lines before : List (List ℕ)) (bytes : List ℕ) (behind : List
     → lines ≡ before ++ bytes ∷ behind → ⊥
 none_faulty [] [] bytes behind all faulty e = cc
 none_faulty [] (b ∷ before) bytes behind all faulty e = cc
-none_faulty (line ∷ lines) [] bytes behind all faulty e = let same : line ≡ bytes = cc in faulty (subst IsFormed same (formed_first line lines all))
+none_faulty (line ∷ lines) [] bytes behind all faulty e =
+    let same : line ≡ bytes = cc in faulty (subst IsFormed same (formed_first line lines all))
 none_faulty (line ∷ lines) (b ∷ before) bytes behind all faulty e =
-    let more : lines ≡ before ++ bytes ∷ behind = cc in none_faulty lines before bytes behind (formed_rest line lines all) faulty more
+    let more : lines ≡ before ++ bytes ∷ behind = cc in
+    none_faulty lines before bytes behind (formed_rest line lines all) faulty more
 
 pub no_fault : (lines : List Line) (n : ℕ) → list_all fits lines ≡ true → IsFirstFault (lines_text lines) n → ⊥
 no_fault lines n fit fault =
     let whole : cut_lines (lines_text lines) ≡ map line_text lines =
-        ap cut_lines (sym (append-nil (lines_text lines)))
-        ∙ cut_behind lines [] fit
-        ∙ ap (λ (cut : List (List ℕ)). map line_text lines ++ cut) cut-nil
-        ∙ append-nil (map line_text lines)
+    ap cut_lines (sym (append-nil (lines_text lines)))
+    ∙ cut_behind lines [] fit
+    ∙ ap (λ (cut : List (List ℕ)). map line_text lines ++ cut) cut-nil
+    ∙ append-nil (map line_text lines)
     in
-    none_faulty (map line_text lines) fault.before fault.bytes fault.behind (all_formed lines fit) fault.faulty (sym whole ∙ fault.cut)
+    none_faulty (map line_text lines) fault.before fault.bytes fault.behind (all_formed lines fit) fault.faulty
+    (sym whole ∙ fault.cut)

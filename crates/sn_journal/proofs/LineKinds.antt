@@ -22,12 +22,14 @@ known_kind text word rest kind numbers w r k n =
     ∙ ap (λ o. line_by o (numbers_behind rest)) (sym k)
     ∙ ap (line_by (Some kind)) n)
 
-line_spelled : (text word rest : List ℕ) (kind : Kind) (numbers : List ℕ) (line : Line) → text ≡ word ++ rest → word ≡ kind_word kind
+line_spelled : (text word rest : List ℕ) (kind : Kind) (numbers : List ℕ) (line : Line) → text ≡ word ++ rest
+    → word ≡ kind_word kind
     → rest ≡ spaced numbers → line_kind line ≡ kind → line_numbers line ≡ numbers → text ++ 10 ∷ [] ≡ line_text line
 unfolding spelled
 line_spelled text word rest kind numbers line t w r k n =
     ap (λ (s : List ℕ). s ++ 10 ∷ []) (
-    t ∙ ap (λ s. s ++ rest) (w ∙ ap kind_word (sym k)) ∙ ap (λ (s : List ℕ). kind_word (line_kind line) ++ s) (r ∙ ap spaced (sym n)))
+    t ∙ ap (λ s. s ++ rest) (w ∙ ap kind_word (sym k))
+    ∙ ap (λ (s : List ℕ). kind_word (line_kind line) ++ s) (r ∙ ap spaced (sym n)))
     ∙ append_assoc (kind_word (line_kind line)) (spaced (line_numbers line)) (10 ∷ [])
 
 -- the line that was read, if one was, is spelled so

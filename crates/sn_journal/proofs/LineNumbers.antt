@@ -101,7 +101,8 @@ small_two_large-wide a b c h =
     let p1 = and_parts (is_u32 a) (is_u64 b) p2.0 in
     and_from _ _ (wide a p1.0) (and_from _ _ p1.1 (and_from _ _ p2.1 refl))
 
-small_two_large-found : (a b c : ℕ) → (is_u32 a && is_u64 b && is_u64 c) ≡ true → small_two_large (a ∷ b ∷ c ∷ []) ≡ Some (a, b, c)
+small_two_large-found : (a b c : ℕ) → (is_u32 a && is_u64 b && is_u64 c) ≡ true
+    → small_two_large (a ∷ b ∷ c ∷ []) ≡ Some (a, b, c)
 small_two_large-found a b c h =
     let p2 = and_parts (is_u32 a && is_u64 b) (is_u64 c) h in
     let p1 = and_parts (is_u32 a) (is_u64 b) p2.0 in
@@ -114,22 +115,26 @@ drained-wide a b c d h =
     let p1 = and_parts (is_u32 a) (is_u64 b) p2.0 in
     and_from _ _ (wide a p1.0) (and_from _ _ p1.1 (and_from _ _ (wide c p2.1) (and_from _ _ p3.1 refl)))
 
-drained-found : (a b c d : ℕ) → (is_u32 a && is_u64 b && is_u32 c && is_u64 d) ≡ true → drained (a ∷ b ∷ c ∷ d ∷ []) ≡ Some (a, b, c, d)
+drained-found : (a b c d : ℕ) → (is_u32 a && is_u64 b && is_u32 c && is_u64 d) ≡ true
+    → drained (a ∷ b ∷ c ∷ d ∷ []) ≡ Some (a, b, c, d)
 drained-found a b c d h =
     let p3 = and_parts (is_u32 a && is_u64 b && is_u32 c) (is_u64 d) h in
     let p2 = and_parts (is_u32 a && is_u64 b) (is_u32 c) p3.0 in
     let p1 = and_parts (is_u32 a) (is_u64 b) p2.0 in
     rw (p1.0, p2.1) refl
 
-carried-wide : (a b c d e : ℕ) → (is_u32 a && is_u64 b && is_u32 c && is_u64 d && is_u32 e) ≡ true → list_all is_u64 (a ∷ b ∷ c ∷ d ∷ e ∷ []) ≡ true
+carried-wide : (a b c d e : ℕ) → (is_u32 a && is_u64 b && is_u32 c && is_u64 d && is_u32 e) ≡ true
+    → list_all is_u64 (a ∷ b ∷ c ∷ d ∷ e ∷ []) ≡ true
 carried-wide a b c d e h =
     let p4 = and_parts (is_u32 a && is_u64 b && is_u32 c && is_u64 d) (is_u32 e) h in
     let p3 = and_parts (is_u32 a && is_u64 b && is_u32 c) (is_u64 d) p4.0 in
     let p2 = and_parts (is_u32 a && is_u64 b) (is_u32 c) p3.0 in
     let p1 = and_parts (is_u32 a) (is_u64 b) p2.0 in
-    and_from _ _ (wide a p1.0) (and_from _ _ p1.1 (and_from _ _ (wide c p2.1) (and_from _ _ p3.1 (and_from _ _ (wide e p4.1) refl))))
+    and_from _ _ (wide a p1.0)
+    (and_from _ _ p1.1 (and_from _ _ (wide c p2.1) (and_from _ _ p3.1 (and_from _ _ (wide e p4.1) refl))))
 
-carried-found : (a b c d e : ℕ) → (is_u32 a && is_u64 b && is_u32 c && is_u64 d && is_u32 e) ≡ true → carried (a ∷ b ∷ c ∷ d ∷ e ∷ []) ≡ Some (a, b, c, d, e)
+carried-found : (a b c d e : ℕ) → (is_u32 a && is_u64 b && is_u32 c && is_u64 d && is_u32 e) ≡ true
+    → carried (a ∷ b ∷ c ∷ d ∷ e ∷ []) ≡ Some (a, b, c, d, e)
 carried-found a b c d e h =
     let p4 = and_parts (is_u32 a && is_u64 b && is_u32 c && is_u64 d) (is_u32 e) h in
     let p3 = and_parts (is_u32 a && is_u64 b && is_u32 c) (is_u64 d) p4.0 in
@@ -167,14 +172,18 @@ line_found (line.Round round) e = ap (option_map line.Round) (one_small-found ro
 line_found (line.Hear due) e = refl
 line_found line.Breath e = refl
 line_found (line.Attach lane found) e = ap (option_map (λ x. line.Attach x.0 x.1)) (small_large-found lane found e)
-line_found (line.Unattached lane loaded found) e = ap (option_map (λ x. line.Unattached x.0 x.1 x.2)) (small_two_large-found lane loaded found e)
+line_found (line.Unattached lane loaded found) e =
+    ap (option_map (λ x. line.Unattached x.0 x.1 x.2)) (small_two_large-found lane loaded found e)
 line_found (line.Detach lane old) e = ap (option_map (λ x. line.Detach x.0 x.1)) (small_large-found lane old e)
 line_found (line.Reset lane) e = ap (option_map line.Reset) (one_small-found lane e)
 line_found (line.Seen lane seen) e = ap (option_map (λ x. line.Seen x.0 x.1)) (two_small-found lane seen e)
 line_found (line.Room lane room) e = ap (option_map (λ x. line.Room x.0 x.1)) (two_small-found lane room e)
-line_found (line.Put lane at packet turn len) e = ap (option_map (λ x. line.Put x.0 x.1 x.2 x.3 x.4)) (carried-found lane at packet turn len e)
-line_found (line.Take lane at packet turn len) e = ap (option_map (λ x. line.Take x.0 x.1 x.2 x.3 x.4)) (carried-found lane at packet turn len e)
-line_found (line.Drain lane at packet turn) e = ap (option_map (λ x. line.Drain x.0 x.1 x.2 x.3)) (drained-found lane at packet turn e)
+line_found (line.Put lane at packet turn len) e =
+    ap (option_map (λ x. line.Put x.0 x.1 x.2 x.3 x.4)) (carried-found lane at packet turn len e)
+line_found (line.Take lane at packet turn len) e =
+    ap (option_map (λ x. line.Take x.0 x.1 x.2 x.3 x.4)) (carried-found lane at packet turn len e)
+line_found (line.Drain lane at packet turn) e =
+    ap (option_map (λ x. line.Drain x.0 x.1 x.2 x.3)) (drained-found lane at packet turn e)
 line_found (line.Got packet turn) e = ap (option_map (λ x. line.Got x.0 x.1)) (small_large-found packet turn e)
 line_found line.Dry e = refl
 line_found (line.Gave packet turn) e = ap (option_map (λ x. line.Gave x.0 x.1)) (small_large-found packet turn e)

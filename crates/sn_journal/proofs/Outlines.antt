@@ -40,7 +40,8 @@ faulty_unread text bytes f none = λ line rest fit e.
     let read : None ≡ Some line = none ∙ ap read_line f ∙ first_read line text rest fit e in cc
 
 -- lines, and behind them what begins with none
-pub alike : (these those : List Line) (x y : List ℕ) → list_all fits these ≡ true → list_all fits those ≡ true → IsFaulty x → IsFaulty y
+pub alike : (these those : List Line) (x y : List ℕ) → list_all fits these ≡ true → list_all fits those ≡ true
+    → IsFaulty x → IsFaulty y
     → lines_text these ++ x ≡ lines_text those ++ y → (these ≡ those) × (x ≡ y)
 alike [] [] x y p q f g e = (refl, e)
 alike [] (b ∷ those) x y p q f g e =
@@ -75,7 +76,8 @@ lines_text-push (first ∷ lines) line =
 
 -- one more line was read
 pub outline_next : (text rest bytes after : List ℕ) (lines now : List Line) (line : Line) → now ≡ lines ++ line ∷ []
-    → rest ≡ bytes ++ 10 ∷ after → bytes ++ 10 ∷ [] ≡ line_text line → text ≡ lines_text lines ++ rest → text ≡ lines_text now ++ after
+    → rest ≡ bytes ++ 10 ∷ after → bytes ++ 10 ∷ [] ≡ line_text line → text ≡ lines_text lines ++ rest
+    → text ≡ lines_text now ++ after
 outline_next text rest bytes after lines now line more parts spelled read =
     let first : rest ≡ line_text line ++ after =
     parts ∙ sym (append_assoc bytes (10 ∷ []) after) ∙ ap (λ (t : List ℕ). t ++ after) spelled in
@@ -85,13 +87,15 @@ outline_next text rest bytes after lines now line more parts spelled read =
     ∙ ap (λ (t : List ℕ). t ++ after) (sym (lines_text-push lines line))
     ∙ ap (λ ls. lines_text ls ++ after) (sym more)
 
-fit_push : (lines : List Line) (line : Line) → list_all fits lines ≡ true → fits line ≡ true → list_all fits (lines ++ line ∷ []) ≡ true
+fit_push : (lines : List Line) (line : Line) → list_all fits lines ≡ true → fits line ≡ true
+    → list_all fits (lines ++ line ∷ []) ≡ true
 fit_push [] line all one = and_from _ _ one refl
 fit_push (first ∷ lines) line all one =
     let parts = and_parts (fits first) (list_all fits lines) all in
     and_from _ _ parts.0 (fit_push lines line parts.1 one)
 
-pub outline_fits : (lines now : List Line) (line : Line) → now ≡ lines ++ line ∷ [] → list_all fits lines ≡ true → fits line ≡ true
+pub outline_fits : (lines now : List Line) (line : Line) → now ≡ lines ++ line ∷ [] → list_all fits lines ≡ true
+    → fits line ≡ true
     → list_all fits now ≡ true
 outline_fits lines now line more all one = ap (list_all fits) more ∙ fit_push lines line all one
 
@@ -112,11 +116,11 @@ fault_at text rest lines m n read all counted told some faulty =
       bytes = first.first;
       behind = first.more;
       cut =
-        ap cut_lines read
-        ∙ cut_behind lines rest all
-        ∙ ap (λ (cut : List (List ℕ)). map line_text lines ++ cut) first.cut;
+          ap cut_lines read
+          ∙ cut_behind lines rest all
+          ∙ ap (λ (cut : List (List ℕ)). map line_text lines ++ cut) first.cut;
       counted = omega (arith, length-map lines line_text, counted, same);
       formed = all_formed lines all;
       faulty = λ formed. faulty formed.line (concat first.more) formed.fit (
-        first.begins ∙ ap (λ (t : List ℕ). t ++ concat first.more) formed.spelled);
+          first.begins ∙ ap (λ (t : List ℕ). t ++ concat first.more) formed.spelled);
     }

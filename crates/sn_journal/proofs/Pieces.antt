@@ -27,12 +27,14 @@ pieces_first [] = refl
 pieces_first (x ∷ xs) = cut_by (x == 32) x xs (pieces_first xs)
 
 numbers_first : (rest : List ℕ) → 0 < length rest
-    → numbers_behind rest ≡ with_number (number_of (front is_no_space (drop 1 rest))) (numbers_behind (behind is_no_space (drop 1 rest)))
+    → numbers_behind rest ≡ with_number (number_of (front is_no_space (drop 1 rest)))
+    (numbers_behind (behind is_no_space (drop 1 rest)))
 numbers_first [] some = absurd (omega arith)
 numbers_first (x ∷ xs) some = ap numbers_of (pieces_first xs)
 
 -- the first piece is no number
-pub numbers_none : (rest next word : List ℕ) → 0 < length rest → next ≡ drop 1 rest → word ≡ front is_no_space next → number_of word ≡ None
+pub numbers_none : (rest next word : List ℕ) → 0 < length rest → next ≡ drop 1 rest → word ≡ front is_no_space next
+    → number_of word ≡ None
     → numbers_behind rest ≡ None
 numbers_none rest next word some n w none =
     numbers_first rest some
@@ -52,12 +54,14 @@ numbers_some rest next word after n some e w a found =
 
 -- numbers that were read, in front of those of what is left
 read_more : (ns : List ℕ) (n : ℕ) (more : Option (List ℕ))
-    → option_map (λ (ms : List ℕ). ns ++ ms) (option_map (λ (ms : List ℕ). n ∷ ms) more) ≡ option_map (λ (ms : List ℕ). (ns ++ n ∷ []) ++ ms) more
+    → option_map (λ (ms : List ℕ). ns ++ ms) (option_map (λ (ms : List ℕ). n ∷ ms) more)
+    ≡ option_map (λ (ms : List ℕ). (ns ++ n ∷ []) ++ ms) more
 read_more ns n None = refl
 read_more ns n (Some ms) = ap Some (sym (append_assoc ns (n ∷ []) ms))
 
 -- one more was read
-pub read_next : (text rest next word after ns now : List ℕ) (n : ℕ) → now ≡ ns ++ n ∷ [] → 0 < length rest → next ≡ drop 1 rest → word ≡ front is_no_space next
+pub read_next : (text rest next word after ns now : List ℕ) (n : ℕ) → now ≡ ns ++ n ∷ [] → 0 < length rest
+    → next ≡ drop 1 rest → word ≡ front is_no_space next
     → after ≡ behind is_no_space next → number_of word ≡ Some n
     → numbers_behind text ≡ option_map (λ (ms : List ℕ). ns ++ ms) (numbers_behind rest)
     → numbers_behind text ≡ option_map (λ (ms : List ℕ). now ++ ms) (numbers_behind after)
@@ -89,7 +93,8 @@ spaced-push (m ∷ ns) n =
     ap (λ (t : List ℕ). 32 ∷ decimal m ++ t) (spaced-push ns n) ∙ sym (append_assoc (32 ∷ decimal m) (spaced ns) (32 ∷ decimal n))
 
 -- the text so far, and what is left
-pub text_next : (text rest next word after ns now : List ℕ) (n : ℕ) → now ≡ ns ++ n ∷ [] → 0 < length rest → next ≡ drop 1 rest → next ≡ word ++ after
+pub text_next : (text rest next word after ns now : List ℕ) (n : ℕ) → now ≡ ns ++ n ∷ [] → 0 < length rest
+    → next ≡ drop 1 rest → next ≡ word ++ after
     → word ≡ decimal n → starts is_no_space rest ≡ false → text ≡ spaced ns ++ rest → text ≡ spaced now ++ after
 text_next text rest next word after ns now n more some e parts digits space read =
     let line : rest ≡ 32 ∷ (decimal n ++ after) =

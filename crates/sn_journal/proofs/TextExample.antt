@@ -14,7 +14,8 @@ pub first_breath : journal_text (Round 1 ∷ Hear 6 ∷ Breath ∷ [])
 unfolding spelled
 first_breath = rw (decimal_digit 1 (lit< tt), decimal_digit 6 (lit< tt)) refl
 
-pub a_packet : journal_text (Got 5 0 ∷ Put 2 8 5 1 (7 ∷ 7 ∷ 7 ∷ []) ∷ []) ≡ ended (codes "got 5 0") ++ ended (codes "put 2 8 5 1 3")
+pub a_packet : journal_text (Got 5 0 ∷ Put 2 8 5 1 (7 ∷ 7 ∷ 7 ∷ []) ∷ [])
+    ≡ ended (codes "got 5 0") ++ ended (codes "put 2 8 5 1 3")
 unfolding spelled
 a_packet =
     rw (

@@ -43,7 +43,8 @@ pieces_behind (x ∷ xs) = pieces xs
 
 -- the u64 that a text writes without leading zeros
 unfoldable pub number_of : List ℕ → Option ℕ
-number_of text = cond (bytes_eq text (decimal (digits_value 10 text)) && is_u64 (digits_value 10 text)) (Some (digits_value 10 text)) None
+number_of text =
+    cond (bytes_eq text (decimal (digits_value 10 text)) && is_u64 (digits_value 10 text)) (Some (digits_value 10 text)) None
 
 -- a number in front of others
 abbrev pub with_number : Option ℕ → Option (List ℕ) → Option (List ℕ)

@@ -1,7 +1,8 @@
 //! What journals say of the packets that are held, as contracts of functions that do nothing.
 ghost use Rattle.sn_journal.specs.declared.entry.Entry.{Entry};
 ghost use Rattle.sn_journal.specs.HandOvers.{PacketName};
-ghost use Rattle.sn_journal.specs.Holding.{GivesOnlyHeld, all_speak_of_held, gains, held_after, held_from, holding, is_among, losses, one_at, speaks_of_held, weight};
+ghost use Rattle.sn_journal.specs.Holding.{GivesOnlyHeld, all_speak_of_held, gains, held_after, held_from, holding};
+ghost use Rattle.sn_journal.specs.Holding.{is_among, losses, one_at, speaks_of_held, weight};
 ghost use Rattle.std.specs.Prelude.{List, [], true, ℕ, ◌+◌, ◌++◌, ◌∷◌, ◌≡◌, ◌≤◌, ◌↔◌};
 
 /// One more entry changes what is held as that entry says. A journal whose entries give only what is held goes on to be one

@@ -37,7 +37,8 @@ pub fn outline(alloc: Global, text: &[u8]) -> Result<Vec<Line>, OutlineFault>
     ensures read { IfOk result (λ lines. IsOutline text.now lines.items) }
     ensures only { IfOk result (λ lines. (others : List Line) → IsOutline text.now others → others ≡ lines.items) }
     ensures fault { IfErr result (λ fault. (n : ℕ) → fault ≡ OutlineFault.Line n → IsFirstFault text.now n) }
-    ensures none { IfErr result (λ fault. (n : ℕ) → fault ≡ OutlineFault.Line n → (lines : List Line) → IsOutline text.now lines → ⊥) }
+    ensures none { IfErr result (λ fault. (n : ℕ) (lines : List Line)
+        → fault ≡ OutlineFault.Line n → IsOutline text.now lines → ⊥) }
 {
     let mut numbers = Vec::new(alloc);
     let mut lines = Vec::new(alloc);

@@ -70,8 +70,14 @@ fn a_journal_prints_its_text(rt: HostRuntime) -> Result<(), Fail> {
     }
     let mut text = b"before\n".to_vec(rt.alloc())?;
     journal.print(&mut text)?;
-    assert_eq!(rt; text.as_slice(), b"before\nround 1\nhear 6\nbreath\n".as_slice());
-    assert_eq!(rt; outline(rt.alloc(), &text[7..])?.as_slice(), [Line::Round(1), Line::Hear(6), Line::Breath].as_slice());
+    assert_eq!(rt;
+        text.as_slice(),
+        b"before\nround 1\nhear 6\nbreath\n".as_slice()
+    );
+    assert_eq!(rt;
+        outline(rt.alloc(), &text[7..])?.as_slice(),
+        [Line::Round(1), Line::Hear(6), Line::Breath].as_slice()
+    );
     Ok(())
 }
 
@@ -81,22 +87,50 @@ fn each_kind_of_entry_is_printed_and_read_back(rt: HostRuntime) -> Result<(), Fa
     let bytes = Payload::of([1, 2, 3].to_vec(rt.alloc())?);
     let table: [(Entry, &[u8], Line); 22] = [
         (Entry::Round(100000), b"round 100000\n", Line::Round(100000)),
-        (Entry::Hear(largest), b"hear 18446744073709551615\n", Line::Hear(largest)),
+        (
+            Entry::Hear(largest),
+            b"hear 18446744073709551615\n",
+            Line::Hear(largest),
+        ),
         (Entry::Breath, b"breath\n", Line::Breath),
         (Entry::Attach(0, 4), b"attach 0 4\n", Line::Attach(0, 4)),
-        (Entry::Unattached(15, 8, 8), b"unattached 15 8 8\n", Line::Unattached(15, 8, 8)),
+        (
+            Entry::Unattached(15, 8, 8),
+            b"unattached 15 8 8\n",
+            Line::Unattached(15, 8, 8),
+        ),
         (Entry::Detach(1, 5), b"detach 1 5\n", Line::Detach(1, 5)),
         (Entry::Reset(2), b"reset 2\n", Line::Reset(2)),
         (Entry::Seen(0, 1023), b"seen 0 1023\n", Line::Seen(0, 1023)),
-        (Entry::Room(4294967295, 0), b"room 4294967295 0\n", Line::Room(4294967295, 0)),
-        (Entry::Put(0, 9, 7, 1, bytes.copy(rt.alloc())?), b"put 0 9 7 1 3\n", Line::Put(0, 9, 7, 1, 3)),
-        (Entry::Take(1, 10, 16383, 2, bytes), b"take 1 10 16383 2 3\n", Line::Take(1, 10, 16383, 2, 3)),
-        (Entry::Drain(0, 1, 0, 1), b"drain 0 1 0 1\n", Line::Drain(0, 1, 0, 1)),
+        (
+            Entry::Room(4294967295, 0),
+            b"room 4294967295 0\n",
+            Line::Room(4294967295, 0),
+        ),
+        (
+            Entry::Put(0, 9, 7, 1, bytes.copy(rt.alloc())?),
+            b"put 0 9 7 1 3\n",
+            Line::Put(0, 9, 7, 1, 3),
+        ),
+        (
+            Entry::Take(1, 10, 16383, 2, bytes),
+            b"take 1 10 16383 2 3\n",
+            Line::Take(1, 10, 16383, 2, 3),
+        ),
+        (
+            Entry::Drain(0, 1, 0, 1),
+            b"drain 0 1 0 1\n",
+            Line::Drain(0, 1, 0, 1),
+        ),
         (Entry::Got(5, 0), b"got 5 0\n", Line::Got(5, 0)),
         (Entry::Dry, b"dry\n", Line::Dry),
         (Entry::Gave(5, 1), b"gave 5 1\n", Line::Gave(5, 1)),
         (Entry::Full(6, 2), b"full 6 2\n", Line::Full(6, 2)),
-        (Entry::Worn(3, 281474976710655), b"worn 3 281474976710655\n", Line::Worn(3, 281474976710655)),
+        (
+            Entry::Worn(3, 281474976710655),
+            b"worn 3 281474976710655\n",
+            Line::Worn(3, 281474976710655),
+        ),
         (Entry::Spent, b"spent\n", Line::Spent),
         (Entry::Stop, b"stop\n", Line::Stop),
         (Entry::Close, b"close\n", Line::Close),
@@ -110,7 +144,10 @@ fn each_kind_of_entry_is_printed_and_read_back(rt: HostRuntime) -> Result<(), Fa
         let mut text = Vec::new(rt.alloc());
         journal.print(&mut text)?;
         assert_eq!(rt; text.as_slice(), printed);
-        assert_eq!(rt; read_back(rt.alloc(), &journal)?.as_slice(), [line].as_slice());
+        assert_eq!(rt;
+            read_back(rt.alloc(), &journal)?.as_slice(),
+            [line].as_slice()
+        );
     }
     Ok(())
 }

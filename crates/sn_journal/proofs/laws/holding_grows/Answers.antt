@@ -7,4 +7,5 @@ pub returns-clause-held : goal.returns-clause-held
 returns-clause-held c = λ entries entry. held_from-append [] entries (entry ∷ [])
 
 pub returns-clause-only : goal.returns-clause-only
-returns-clause-only c = λ entries entry only one. record { each = speak-append [] entries (entry ∷ []) only.each (and_from _ _ one refl) }
+returns-clause-only c = λ entries entry only one.
+    record { each = speak-append [] entries (entry ∷ []) only.each (and_from _ _ one refl) }

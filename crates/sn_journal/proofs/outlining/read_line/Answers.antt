@@ -25,4 +25,5 @@ pub returns-clause-spelled : goal.returns-clause-spelled
 returns-clause-spelled c =
     let yes : c.in_ok-read_numbers.field-0 ≡ true = search rules in
     read_spelled _ _ _ _ _ c.line_from.result c.split_word.ensures.parts c.in-Some.ensures.word
-    (c.in_ok-read_numbers.ensures.text (ap Ok yes) ∙ ap spaced (sym c.deref.ensures.value)) c.line_from.ensures.kind c.line_from.ensures.numbers
+    (c.in_ok-read_numbers.ensures.text (ap Ok yes) ∙ ap spaced (sym c.deref.ensures.value)) c.line_from.ensures.kind
+    c.line_from.ensures.numbers
