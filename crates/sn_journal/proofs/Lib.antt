@@ -10,4 +10,5 @@ pub mod LineNumbers
 pub mod LineTexts
 pub mod Outlines
 pub mod Pieces
-mod TextExample
+mod OutlineExample
+pub mod TextExample

@@ -62,7 +62,7 @@ fn read_back(alloc: Global, journal: &Journal) -> Result<Vec<Line>, OutlineFault
 }
 
 #[test]
-fn a_journal_prints_its_text(rt: HostRuntime) -> Result<(), Fail> {
+fn journal_text_is_printed_and_read_back(rt: HostRuntime) -> Result<(), Fail> {
     let mut journal = Journal::new(rt.alloc());
     for entry in [Entry::Round(1), Entry::Hear(6), Entry::Breath] {
         journal.reserve()?;
