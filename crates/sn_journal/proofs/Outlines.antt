@@ -1,6 +1,6 @@
 -- A text has one outline, or one first fault.
 use Rattle.std.proofs.Common.{List, None, Some, [], ap, append_assoc, arith, drop, length, map, refl, subst, sym, true, ℕ, ◌++◌, ◌+◌, ◌<◌, ◌∙◌, ◌∷◌, ◌≡◌}
-use Rattle.std.proofs.lemmas.Bool.{and_from, and_parts}
+use Rattle.std.proofs.lemmas.Bool.{and_parts}
 use Rattle.std.proofs.lemmas.List.{append-nil, length-map}
 use Rattle.std.specs.List.{concat, list_all}
 use Rattle.sn_journal.specs.Cutting.{behind, front, is_no_feed, read_line}
@@ -67,37 +67,6 @@ one_outline text these those a b =
 -- a text with a first fault has none
 pub no_outline : (text : List ℕ) (n : ℕ) (lines : List Line) → IsFirstFault text n → IsOutline text lines → ⊥
 no_outline text n lines fault read = no_fault lines n read.fit (subst (λ t. IsFirstFault t n) read.spelled fault)
-
-lines_text-push : (lines : List Line) (line : Line) → lines_text (lines ++ line ∷ []) ≡ lines_text lines ++ line_text line
-lines_text-push [] line = append-nil (line_text line)
-lines_text-push (first ∷ lines) line =
-    ap (λ (t : List ℕ). line_text first ++ t) (lines_text-push lines line)
-    ∙ sym (append_assoc (line_text first) (lines_text lines) (line_text line))
-
--- one more line was read
-pub outline_next : (text rest bytes after : List ℕ) (lines now : List Line) (line : Line) → now ≡ lines ++ line ∷ []
-    → rest ≡ bytes ++ 10 ∷ after → bytes ++ 10 ∷ [] ≡ line_text line → text ≡ lines_text lines ++ rest
-    → text ≡ lines_text now ++ after
-outline_next text rest bytes after lines now line more parts spelled read =
-    let first : rest ≡ line_text line ++ after =
-    parts ∙ sym (append_assoc bytes (10 ∷ []) after) ∙ ap (λ (t : List ℕ). t ++ after) spelled in
-    read
-    ∙ ap (λ (t : List ℕ). lines_text lines ++ t) first
-    ∙ sym (append_assoc (lines_text lines) (line_text line) after)
-    ∙ ap (λ (t : List ℕ). t ++ after) (sym (lines_text-push lines line))
-    ∙ ap (λ ls. lines_text ls ++ after) (sym more)
-
-fit_push : (lines : List Line) (line : Line) → list_all fits lines ≡ true → fits line ≡ true
-    → list_all fits (lines ++ line ∷ []) ≡ true
-fit_push [] line all one = and_from _ _ one refl
-fit_push (first ∷ lines) line all one =
-    let parts = and_parts (fits first) (list_all fits lines) all in
-    and_from _ _ parts.0 (fit_push lines line parts.1 one)
-
-pub outline_fits : (lines now : List Line) (line : Line) → now ≡ lines ++ line ∷ [] → list_all fits lines ≡ true
-    → fits line ≡ true
-    → list_all fits now ≡ true
-outline_fits lines now line more all one = ap (list_all fits) more ∙ fit_push lines line all one
 
 -- nothing is left
 pub outline_end : (text rest : List ℕ) (lines : List Line) → length rest ≡ 0 → text ≡ lines_text lines ++ rest

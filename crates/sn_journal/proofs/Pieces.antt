@@ -7,13 +7,6 @@ use Rattle.sn_names.specs.Parts.{starts}
 use Rattle.sn_journal.specs.Cutting.{behind, front, is_no_space, number_of, numbers_behind, numbers_of, onto, pieces, pieces_behind, with_number}
 use Rattle.sn_journal.specs.JournalText.{spaced}
 
-pieces_by : ℕ → List (List ℕ) → Bool → List (List ℕ)
-pieces_by x more parts = cond parts ([] ∷ more) (onto x more)
-
-pieces-nil : pieces [] ≡ [] ∷ []
-unfolding pieces
-pieces-nil = refl
-
 cut_by : (b : Bool) (x : ℕ) (xs : List ℕ) → pieces xs ≡ front is_no_space xs ∷ pieces_behind (behind is_no_space xs)
     → cond b ([] ∷ pieces xs) (onto x (pieces xs))
     ≡ cond (not b) (x ∷ front is_no_space xs) [] ∷ pieces_behind (cond (not b) (behind is_no_space xs) (x ∷ xs))
@@ -77,11 +70,6 @@ pub read_none : (text rest next word ns : List ℕ) → 0 < length rest → next
 read_none text rest next word ns some e w none read =
     read ∙ ap (option_map (λ (ms : List ℕ). ns ++ ms)) (numbers_none rest next word some e w none)
 
-pub read_end : (text rest ns : List ℕ) → length rest ≡ 0
-    → numbers_behind text ≡ option_map (λ (ms : List ℕ). ns ++ ms) (numbers_behind rest) → numbers_behind text ≡ Some ns
-read_end text [] ns none read = read ∙ ap Some (append-nil ns)
-read_end text (x ∷ xs) ns none read = absurd (omega arith)
-
 -- a text begins with a space
 space_first : (rest : List ℕ) → 0 < length rest → starts is_no_space rest ≡ false → rest ≡ 32 ∷ drop 1 rest
 space_first [] some h = absurd (omega arith)
@@ -104,7 +92,3 @@ text_next text rest next word after ns now n more some e parts digits space read
     ∙ sym (append_assoc (spaced ns) (32 ∷ decimal n) after)
     ∙ ap (λ (t : List ℕ). t ++ after) (sym (spaced-push ns n))
     ∙ ap (λ (all : List ℕ). spaced all ++ after) (sym more)
-
-pub text_end : (text rest ns : List ℕ) → length rest ≡ 0 → text ≡ spaced ns ++ rest → text ≡ spaced ns
-text_end text [] ns none read = read ∙ append-nil (spaced ns)
-text_end text (x ∷ xs) ns none read = absurd (omega arith)
