@@ -11,6 +11,8 @@ pub mod Handling
 pub mod Hands
 pub mod Naming
 pub mod AtPorts
+pub mod Leaving
+pub mod LaneCalls
 mod Playing
 mod Gaining
 mod OtherEnds
