@@ -1,0 +1,7 @@
+-- answers of src/turns.rt, pull_once
+use Rattle.sn_app.specs.World.{desk_of}
+use Rattle.app_rig.proofs.turns.pull_once.Goals as goal
+
+pub returns-clause-stays : goal.returns-clause-stays
+unfolding desk_of
+returns-clause-stays g c = c.pull-ended.ensures.runs.answers.stays
