@@ -3,7 +3,7 @@ ghost use Rattle.std.specs.Prelude.{◌≡◌, ◌<◌, OnOk, length};
 ghost use Rattle.sn_packet.specs.Hold.{used_of};
 ghost use Rattle.sn_app.specs.Bench.{tray_of};
 ghost use Rattle.sn_app.specs.World.{nowhere};
-ghost use Rattle.app_rig.specs.Rigs.{IsRig};
+ghost use Rattle.app_rig.specs.Rigs.{IsWhole};
 
 use app_rig::{At, Rig};
 use sn_basic::{Sink, Source, Tee};
@@ -18,7 +18,7 @@ pub(crate) fn line(
     sink: &mut Sink,
     rounds: u32,
 ) -> Result<(), Fail>
-    requires rig { IsRig (tray_of rig.old.bench) (used_of rig.old.bench.held) rig.old.links.slots rig.old.some rig.old.more nowhere }
+    requires rig { IsWhole rig.old.bench rig.old.links.slots rig.old.some rig.old.more nowhere }
     requires apps { length rig.old.bench.roster.apps ≡ 3 }
     requires source { source.old.row < 3 }
     requires sink { sink.old.row < 3 }
@@ -40,7 +40,7 @@ pub(crate) fn tee(
     sink: &mut Sink,
     rounds: u32,
 ) -> Result<(), Fail>
-    requires rig { IsRig (tray_of rig.old.bench) (used_of rig.old.bench.held) rig.old.links.slots rig.old.some rig.old.more nowhere }
+    requires rig { IsWhole rig.old.bench rig.old.links.slots rig.old.some rig.old.more nowhere }
     requires apps { length rig.old.bench.roster.apps ≡ 3 }
     requires source { source.old.row < 3 }
     requires tee { tee.old.row < 3 }

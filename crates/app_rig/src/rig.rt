@@ -4,9 +4,9 @@ ghost use Rattle.sn_packet.specs.Hold.{used_of};
 ghost use Rattle.sn_app.specs.Bench.{tray_of};
 ghost use Rattle.sn_app.specs.Ports.{HasLinks};
 ghost use Rattle.sn_app.specs.Answers.{Stays};
-ghost use Rattle.sn_app.specs.World.{IsSound, nowhere, world, ◌⊕◌};
+ghost use Rattle.sn_app.specs.World.{IsSound, nowhere, ◌⊕◌};
 ghost use Rattle.app_rig.specs.Links.{AreLinked, IsLinked};
-ghost use Rattle.app_rig.specs.Rigs.{IsRig, key_of};
+ghost use Rattle.app_rig.specs.Rigs.{IsWhole, key_of, world_of};
 
 use crate::links::four_links;
 use crate::turns::{pull_once, push_once};
@@ -41,7 +41,7 @@ impl Rig {
     /// # Errors
     /// Want of memory.
     pub fn new(alloc: Global, bench: Bench) -> Result<Rig, AllocError>
-        ensures rig { IfOk result (λ rig. IsRig (tray_of rig.bench) (used_of rig.bench.held) rig.links.slots rig.some rig.more nowhere) }
+        ensures rig { IfOk result (λ rig. IsWhole rig.bench rig.links.slots rig.some rig.more nowhere) }
         ensures bench { IfOk result (λ rig. rig.bench ≡ bench) }
         ensures apps { IfOk result (λ rig. length rig.bench.roster.apps ≡ length bench.roster.apps) }
     {
@@ -89,13 +89,13 @@ impl Rig {
         app: &mut A,
         outs: &[(&str, At)],
     ) -> Result<(), Fail>
-        requires rig { IsRig (tray_of self.old.bench) (used_of self.old.bench.held) self.old.links.slots self.old.some self.old.more (A.places app.old) }
+        requires rig { IsWhole self.old.bench self.old.links.slots self.old.some self.old.more (A.places app.old) }
         requires ready { A.can_run app.old (tray_of self.old.bench) }
-        ensures rig { OnOk result (IsRig (tray_of self.new.bench) (used_of self.new.bench.held) self.new.links.slots self.new.some self.new.more (A.places app.new)) }
+        ensures rig { OnOk result (IsWhole self.new.bench self.new.links.slots self.new.some self.new.more (A.places app.new)) }
         ensures ready { OnOk result (A.can_run app.new (tray_of self.new.bench)) }
         ensures beside { OnOk result ((others : ℕ → ℕ)
-            → IsSound (world (tray_of self.old.bench) (used_of self.old.bench.held) self.old.links.slots) (A.places app.old ⊕ others)
-            → IsSound (world (tray_of self.new.bench) (used_of self.new.bench.held) self.new.links.slots) (A.places app.new ⊕ others)) }
+            → IsSound (world_of self.old.bench self.old.links.slots) (A.places app.old ⊕ others)
+            → IsSound (world_of self.new.bench self.new.links.slots) (A.places app.new ⊕ others)) }
         ensures stays { Stays (tray_of self.old.bench) (tray_of self.new.bench) }
         ensures apps { length self.new.bench.roster.apps ≡ length self.old.bench.roster.apps }
     {
@@ -115,13 +115,13 @@ impl Rig {
         ins: &[(&str, At)],
         outs: &[(&str, At)],
     ) -> Result<(), Fail>
-        requires rig { IsRig (tray_of self.old.bench) (used_of self.old.bench.held) self.old.links.slots self.old.some self.old.more (A.places app.old) }
+        requires rig { IsWhole self.old.bench self.old.links.slots self.old.some self.old.more (A.places app.old) }
         requires ready { A.can_run app.old (tray_of self.old.bench) }
-        ensures rig { OnOk result (IsRig (tray_of self.new.bench) (used_of self.new.bench.held) self.new.links.slots self.new.some self.new.more (A.places app.new)) }
+        ensures rig { OnOk result (IsWhole self.new.bench self.new.links.slots self.new.some self.new.more (A.places app.new)) }
         ensures ready { OnOk result (A.can_run app.new (tray_of self.new.bench)) }
         ensures beside { OnOk result ((others : ℕ → ℕ)
-            → IsSound (world (tray_of self.old.bench) (used_of self.old.bench.held) self.old.links.slots) (A.places app.old ⊕ others)
-            → IsSound (world (tray_of self.new.bench) (used_of self.new.bench.held) self.new.links.slots) (A.places app.new ⊕ others)) }
+            → IsSound (world_of self.old.bench self.old.links.slots) (A.places app.old ⊕ others)
+            → IsSound (world_of self.new.bench self.new.links.slots) (A.places app.new ⊕ others)) }
         ensures stays { Stays (tray_of self.old.bench) (tray_of self.new.bench) }
         ensures apps { length self.new.bench.roster.apps ≡ length self.old.bench.roster.apps }
     {

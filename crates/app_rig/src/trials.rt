@@ -2,7 +2,7 @@
 ghost use Rattle.std.specs.Prelude.{◌≡◌, ◌<◌, IfOk, OnOk, length};
 ghost use Rattle.sn_packet.specs.Hold.{used_of};
 ghost use Rattle.sn_app.specs.Bench.{tray_of};
-ghost use Rattle.app_rig.specs.Rigs.{IsRig};
+ghost use Rattle.app_rig.specs.Rigs.{IsWhole};
 
 use crate::rig::{At, Rig};
 use sn_app::{App, Bench};
@@ -34,11 +34,11 @@ fn source_turn<A: App<Bench>>(
     app: &A,
     turn: Turn<'_>,
 ) -> Result<(), Fail>
-    requires rig { IsRig (tray_of rig.old.bench) (used_of rig.old.bench.held) rig.old.links.slots rig.old.some rig.old.more
+    requires rig { IsWhole rig.old.bench rig.old.links.slots rig.old.some rig.old.more
         (A.places app.now) }
     requires ready { A.can_run app.now (tray_of rig.old.bench) }
     requires row { source.old.row < length rig.old.bench.roster.apps }
-    ensures rig { OnOk result (IsRig (tray_of rig.new.bench) (used_of rig.new.bench.held) rig.new.links.slots rig.new.some rig.new.more
+    ensures rig { OnOk result (IsWhole rig.new.bench rig.new.links.slots rig.new.some rig.new.more
         (A.places app.now)) }
     ensures ready { OnOk result (A.can_run app.now (tray_of rig.new.bench)) }
     ensures row { OnOk result (source.new.row < length rig.new.bench.roster.apps) }
@@ -56,11 +56,11 @@ fn sample_turn<A: App<Bench>>(
     app: &A,
     turn: Turn<'_>,
 ) -> Result<(), Fail>
-    requires rig { IsRig (tray_of rig.old.bench) (used_of rig.old.bench.held) rig.old.links.slots rig.old.some rig.old.more
+    requires rig { IsWhole rig.old.bench rig.old.links.slots rig.old.some rig.old.more
         (A.places app.now) }
     requires ready { A.can_run app.now (tray_of rig.old.bench) }
     requires row { sample.old.row < length rig.old.bench.roster.apps }
-    ensures rig { OnOk result (IsRig (tray_of rig.new.bench) (used_of rig.new.bench.held) rig.new.links.slots rig.new.some rig.new.more
+    ensures rig { OnOk result (IsWhole rig.new.bench rig.new.links.slots rig.new.some rig.new.more
         (A.places app.now)) }
     ensures ready { OnOk result (A.can_run app.now (tray_of rig.new.bench)) }
     ensures row { OnOk result (sample.new.row < length rig.new.bench.roster.apps) }
@@ -79,12 +79,12 @@ fn one_turn<A: App<Bench>>(
     app: &mut A,
     turn: Turn<'_>,
 ) -> Result<(), Fail>
-    requires rig { IsRig (tray_of rig.old.bench) (used_of rig.old.bench.held) rig.old.links.slots rig.old.some rig.old.more
+    requires rig { IsWhole rig.old.bench rig.old.links.slots rig.old.some rig.old.more
         (A.places app.old) }
     requires ready { A.can_run app.old (tray_of rig.old.bench) }
     requires source { source.old.row < length rig.old.bench.roster.apps }
     requires sample { sample.old.row < length rig.old.bench.roster.apps }
-    ensures rig { OnOk result (IsRig (tray_of rig.new.bench) (used_of rig.new.bench.held) rig.new.links.slots rig.new.some rig.new.more
+    ensures rig { OnOk result (IsWhole rig.new.bench rig.new.links.slots rig.new.some rig.new.more
         (A.places app.new)) }
     ensures ready { OnOk result (A.can_run app.new (tray_of rig.new.bench)) }
     ensures source { OnOk result (source.new.row < length rig.new.bench.roster.apps) }
@@ -110,12 +110,12 @@ pub fn trial<A: App<Bench>>(
     app: &mut A,
     turns: &[Turn<'_>],
 ) -> Result<(), Fail>
-    requires rig { IsRig (tray_of rig.old.bench) (used_of rig.old.bench.held) rig.old.links.slots rig.old.some rig.old.more
+    requires rig { IsWhole rig.old.bench rig.old.links.slots rig.old.some rig.old.more
         (A.places app.old) }
     requires ready { A.can_run app.old (tray_of rig.old.bench) }
     requires source { source.old.row < length rig.old.bench.roster.apps }
     requires sample { sample.old.row < length rig.old.bench.roster.apps }
-    ensures rig { OnOk result (IsRig (tray_of rig.new.bench) (used_of rig.new.bench.held) rig.new.links.slots rig.new.some rig.new.more
+    ensures rig { OnOk result (IsWhole rig.new.bench rig.new.links.slots rig.new.some rig.new.more
         (A.places app.new)) }
     ensures ready { OnOk result (A.can_run app.new (tray_of rig.new.bench)) }
     ensures apps { length rig.new.bench.roster.apps ≡ length rig.old.bench.roster.apps }

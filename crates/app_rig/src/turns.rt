@@ -6,7 +6,8 @@ ghost use Rattle.sn_app.specs.Bench.{tray_of};
 ghost use Rattle.sn_app.specs.Apps.{pulls, pushes};
 ghost use Rattle.sn_app.specs.Ports.{HasLinks, KeepsRows, rows_of};
 ghost use Rattle.sn_app.specs.Runs.{Moves, Runs, stands_at};
-ghost use Rattle.sn_app.specs.World.{IsSound, world};
+ghost use Rattle.sn_app.specs.World.{IsSound};
+ghost use Rattle.app_rig.specs.Rigs.{world_of};
 
 use slab::Slab;
 use sn_app::{App, Bench, Halt, Ports};
@@ -27,15 +28,15 @@ pub fn pull_once<A: App<Bench>>(
     requires ready { A.can_run app.old (tray_of bench.old) }
     requires ins { HasLinks links.old.slots ins.now }
     requires outs { HasLinks links.old.slots outs.now }
-    requires sound { IsSound (world (tray_of bench.old) (used_of bench.old.held) links.old.slots) (A.places app.old) }
+    requires sound { IsSound (world_of bench.old links.old.slots) (A.places app.old) }
     ensures ready { OnOk result (A.can_run app.new (tray_of bench.new)) }
     ensures runs { Runs (pulls (A.state app.old (used_of bench.old.held) (tray_of bench.old))
         (rows_of links.old.slots ins.now) (rows_of links.old.slots outs.now))
-        (world (tray_of bench.old) (used_of bench.old.held) links.old.slots)
-        (world (tray_of bench.new) (used_of bench.new.held) links.new.slots) (A.places app.old) (A.places app.new)
+        (world_of bench.old links.old.slots)
+        (world_of bench.new links.new.slots) (A.places app.old) (A.places app.new)
         (stands_at (A.state app.new (used_of bench.new.held) (tray_of bench.new)) result) }
-    ensures moves { OnOk result (Moves (world (tray_of bench.old) (used_of bench.old.held) links.old.slots)
-        (world (tray_of bench.new) (used_of bench.new.held) links.new.slots) (A.places app.old) (A.places app.new)) }
+    ensures moves { OnOk result (Moves (world_of bench.old links.old.slots)
+        (world_of bench.new links.new.slots) (A.places app.old) (A.places app.new)) }
     ensures stays { Stays (tray_of bench.old) (tray_of bench.new) }
     ensures rows { KeepsRows links.old.slots links.new.slots }
 {
@@ -63,15 +64,15 @@ pub fn push_once<A: App<Bench>>(
     requires ready { A.can_run app.old (tray_of bench.old) }
     requires ins { HasLinks links.old.slots ins.now }
     requires outs { HasLinks links.old.slots outs.now }
-    requires sound { IsSound (world (tray_of bench.old) (used_of bench.old.held) links.old.slots) (A.places app.old) }
+    requires sound { IsSound (world_of bench.old links.old.slots) (A.places app.old) }
     ensures ready { OnOk result (A.can_run app.new (tray_of bench.new)) }
     ensures runs { Runs (pushes (A.state app.old (used_of bench.old.held) (tray_of bench.old))
         (rows_of links.old.slots ins.now) (rows_of links.old.slots outs.now))
-        (world (tray_of bench.old) (used_of bench.old.held) links.old.slots)
-        (world (tray_of bench.new) (used_of bench.new.held) links.new.slots) (A.places app.old) (A.places app.new)
+        (world_of bench.old links.old.slots)
+        (world_of bench.new links.new.slots) (A.places app.old) (A.places app.new)
         (stands_at (A.state app.new (used_of bench.new.held) (tray_of bench.new)) result) }
-    ensures moves { OnOk result (Moves (world (tray_of bench.old) (used_of bench.old.held) links.old.slots)
-        (world (tray_of bench.new) (used_of bench.new.held) links.new.slots) (A.places app.old) (A.places app.new)) }
+    ensures moves { OnOk result (Moves (world_of bench.old links.old.slots)
+        (world_of bench.new links.new.slots) (A.places app.old) (A.places app.new)) }
     ensures stays { Stays (tray_of bench.old) (tray_of bench.new) }
     ensures rows { KeepsRows links.old.slots links.new.slots }
 {
