@@ -23,10 +23,14 @@ pub ports_then : {a b c : Ports} → SamePorts a b → SamePorts b c → SamePor
 ports_then x y = record { ins = y.ins ∙ x.ins; outs = y.outs ∙ x.outs; links = y.links ∙ x.links }
 
 pub rows_same : (slots : List _) → KeepsRows slots slots
-rows_same slots = record { rows = λ key. refl; held = λ key h. h }
+rows_same slots = record { rows = λ key. refl; held = λ key h. h; none = λ key h. h }
 
 pub rows_then : {a b c : List _} → KeepsRows a b → KeepsRows b c → KeepsRows a c
-rows_then x y = record { rows = λ key. y.rows key ∙ x.rows key; held = λ key h. y.held key (x.held key h) }
+rows_then x y = record {
+  rows = λ key. y.rows key ∙ x.rows key;
+  held = λ key h. y.held key (x.held key h);
+  none = λ key h. y.none key (x.none key h);
+}
 
 -- a port's row, and that its link is there, stay
 pub out_row_kept : {from to : Ports} → SamePorts from to → KeepsRows (slots_of from) (slots_of to) → (o : ℕ) → out_row to o ≡ out_row from o

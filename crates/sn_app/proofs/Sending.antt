@@ -287,8 +287,16 @@ module _ (slots : List (Option Line)) (key : ℕ) (line changed : Line) (there :
         (sym (get_or-set_other slots key other (Some changed) None differs))
   ]
 
+  none_kept : (other : ℕ) → get_or slots other None ≡ None → get_or (set slots key (Some changed)) other None ≡ None
+  none_kept other none = elim (cases_eq other key) [
+    | inl same ↦
+        let empty : get_or slots key None ≡ None = subst (λ k. get_or slots k None ≡ None) same none in
+        absurd (false≢true (something (get_or slots key None) None (subst (λ slot. IsSome slot) (sym there) refl) empty))
+    | inr differs ↦ get_or-set_other slots key other (Some changed) None differs ∙ none
+  ]
+
   pub keeps_rows : KeepsRows slots (set slots key (Some changed))
-  keeps_rows = record { rows = row_kept; held = held_kept }
+  keeps_rows = record { rows = row_kept; held = held_kept; none = none_kept }
 
 -- what a port leads to is there
 pub line_there : (slots : List (Option Line)) (ports : List (List ℕ × ℕ)) (i : ℕ) → HasLinks slots ports → i < length ports

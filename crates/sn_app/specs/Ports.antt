@@ -81,7 +81,8 @@ pub record SamePorts (old new : Ports) : Type 0 where
   pub outs : outs_of new ≡ outs_of old
   pub links : new.links.ghost_name ≡ old.links.ghost_name
 
--- the same links, each still at its row
+-- the same links, each still at its row, and none besides
 pub record KeepsRows (old new : List (Option Line)) : Type 0 where
   pub rows : (key : ℕ) → (line_at new key).row ≡ (line_at old key).row
   pub held : (key : ℕ) → IsSome (slice_index_or old key None) → IsSome (slice_index_or new key None)
+  pub none : (key : ℕ) → slice_index_or old key None ≡ None → slice_index_or new key None ≡ None
