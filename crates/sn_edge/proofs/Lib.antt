@@ -1,3 +1,4 @@
 mod Starting
 mod Records
 mod Alone
+mod Counting

@@ -12,12 +12,14 @@ ghost use Rattle.sn_app.specs.World.{nowhere, world};
 ghost use Rattle.sn_config.specs.ArgText.{IsArgOf};
 ghost use Rattle.sn_edge.specs.Needs.{CanRead, CanRead-stays, HasRow, reader_at, reader_at-stays};
 ghost use Rattle.sn_edge.specs.Shown.{shown_as};
+ghost use Rattle.sn_edge.specs.Unread.{bytes_in, unread_at};
 ghost use Rattle.sn_link.specs.Link.{Line};
 ghost use Rattle.sn_names.specs.declared.class.Class.{Class};
 ghost use Rattle.sn_pcap.specs.Places.{IsPlace, payloads_at};
 
 use sn_app::{App, Counter, Ctx, Halt, Ports, linked_output, send};
 use sn_names::{Arg, Class};
+use sn_pcap::Capture;
 
 /// The most records of one pull, as Snabb's burst.
 const MOST_PULLED: u32 = 102;
@@ -89,6 +91,20 @@ fn read_some<C: Ctx>(
     Ok(now)
 }
 
+/// How many records stand from a place on.
+fn count_from(capture: &Capture, start: u64) -> u64
+    requires { IsPlace capture.now start }
+    ensures { result ≡ length (payloads_at capture.now start) }
+{
+    let mut at = start;
+    let mut count = 0;
+    while let Some(found) = capture.record(at) {
+        at = found.next;
+        count += 1;
+    }
+    count
+}
+
 /// Sends the records of a capture, one after the other.
 #[derive(Debug, Drop)]
 pub struct PcapReader {
@@ -128,6 +144,18 @@ impl PcapReader {
         let capture = capture_in(ctx, arg);
         let at = ctx.first(capture);
         Ok(PcapReader { row, capture, at })
+    }
+
+    /// How many records of its capture it hasn't passed, those that are too long among them. The captures are the roster's, in
+    /// its order.
+    pub fn unread(&self, captures: &[Capture]) -> u64
+        requires { IsPlace (bytes_in self.now.capture captures.now) self.now.at }
+        ensures { result ≡ unread_at self.now.capture self.now.at captures.now }
+    {
+        match captures.get(self.capture as usize) {
+            Some(capture) => count_from(capture, self.at),
+            None => 0,
+        }
     }
 }
 
