@@ -2,6 +2,7 @@ pub mod ActionLists
 pub mod ActionNames
 pub mod AppChanges
 pub mod AppliedActions
+pub mod Consistent
 pub mod DiffLaw
 pub mod EqualValues
 pub mod FiniteMaps

@@ -1,4 +1,5 @@
 //! The plain form of a network, and what each action does to it.
+ghost use Rattle.sn_actions.specs.Consistency.{IsConsistent};
 ghost use Rattle.sn_actions.specs.PlainForms.{empty_form};
 ghost use Rattle.sn_actions.specs.PlainOf.{plain_of};
 ghost use Rattle.sn_actions.specs.Plains.{apply};
@@ -33,8 +34,10 @@ pub struct Plain {
 
 impl Plain {
     /// The empty plain form.
+    #[tactic(auto, using(crate::proofs::Consistent::empty_sound))]
     pub fn new(alloc: Global) -> Plain
-        ensures { plain_of result ≡ empty_form }
+        ensures form { plain_of result ≡ empty_form }
+        ensures sound { IsConsistent (plain_of result) }
     {
         Plain {
             apps: BTreeMap::new(alloc),
@@ -55,6 +58,7 @@ impl Plain {
         ensures refused { IfErr result (λ fault. fault ≢ OutOfMemory → apply action.now (plain_of self.old) ≡ Err fault) }
         ensures memory { IfErr result (λ fault. fault ≡ OutOfMemory → IsOk (apply action.now (plain_of self.old))) }
         ensures err { OnErr result (plain_of self.new ≡ plain_of self.old) }
+        ensures sound { OnOk result (IsConsistent (plain_of self.old) → IsConsistent (plain_of self.new)) }
     {
         match action {
             Action::UnlinkOutput(link) => self.unlink_output(link),
