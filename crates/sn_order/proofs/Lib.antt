@@ -5,3 +5,4 @@ mod Waits
 mod Placed
 mod RankedNames
 mod RanksAreNames
+mod Among

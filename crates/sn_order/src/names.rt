@@ -2,7 +2,7 @@
 ghost use Rattle.std.specs.Prelude.{◌≡◌, ◌<◌, IfOk, IfSome, fold, length, map, slice_index_or, []};
 ghost use Rattle.std.specs.BTreeSet.{insert_key};
 ghost use Rattle.sn_names.specs.LinkOrder.{name_cmp};
-ghost use Rattle.std.specs.List.{All};
+ghost use Rattle.std.specs.List.{All, Contains};
 ghost use Rattle.std.specs.List.Sorted.{IsStrictlySortedBy};
 ghost use Rattle.sn_order.specs.Order.{in_order};
 ghost use Rattle.sn_order.specs.Ranks.{AreWithin, IsWithin, edge_of, edges_of, name_at, rank_in};
@@ -14,6 +14,7 @@ use std::collections::BTreeSet;
 /// The names of a slice in bytewise order, each once.
 pub(crate) fn sorted(alloc: Global, apps: &[Name]) -> Result<Vec<Name>, AllocError>
     ensures names { IfOk result (λ names. names.items ≡ in_order apps.now) }
+    ensures among { IfOk result (λ names. All (Contains apps.now) names.items) }
     ensures rising { IfOk result (λ names. IsStrictlySortedBy name_cmp names.items) }
 {
     let mut set = BTreeSet::new(alloc);

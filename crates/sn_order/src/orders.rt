@@ -1,5 +1,6 @@
 //! The order of pulls, and that of pushes.
-ghost use Rattle.std.specs.Prelude.{◌≡◌, IfOk};
+ghost use Rattle.std.specs.Prelude.{◌≡◌, IfOk, length};
+ghost use Rattle.std.specs.List.{All, Contains};
 ghost use Rattle.sn_order.specs.Order.{in_order, push_names};
 
 use crate::names::{edges_of, named, sorted};
@@ -12,7 +13,8 @@ use std::alloc::{AllocError, Global};
 /// # Errors
 /// Want of memory.
 pub fn pull_order(alloc: Global, apps: &[Name]) -> Result<Vec<Name>, AllocError>
-    ensures { IfOk result (λ order. order.items ≡ in_order apps.now) }
+    ensures order { IfOk result (λ order. order.items ≡ in_order apps.now) }
+    ensures among { IfOk result (λ order. All (Contains apps.now) order.items) }
 {
     sorted(alloc, apps)
 }
@@ -23,7 +25,9 @@ pub fn pull_order(alloc: Global, apps: &[Name]) -> Result<Vec<Name>, AllocError>
 /// # Errors
 /// Want of memory.
 pub fn push_order(alloc: Global, apps: &[Name], links: &[LinkSpec]) -> Result<Vec<Name>, AllocError>
-    ensures { IfOk result (λ order. order.items ≡ push_names links.now (in_order apps.now)) }
+    ensures order { IfOk result (λ order. order.items ≡ push_names links.now (in_order apps.now)) }
+    ensures among { IfOk result (λ order. All (Contains apps.now) order.items) }
+    ensures many { IfOk result (λ order. length order.items ≡ length (in_order apps.now)) }
 {
     let names = sorted(alloc, apps)?;
     let edges = edges_of(alloc, &names, links)?;

@@ -123,6 +123,7 @@ pub(crate) fn place_all(
     requires { AreWithin count edges.now }
     ensures order { IfOk result (λ order. order.items ≡ rank_order count edges.now) }
     ensures within { IfOk result (λ order. All (λ app. app < count) order.items) }
+    ensures len { IfOk result (λ order. length order.items ≡ count) }
 {
     let mut counts = counts_of(alloc, count, edges)?;
     let targets = targets_of(alloc, count, edges)?;

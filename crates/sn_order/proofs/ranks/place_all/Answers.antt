@@ -2,7 +2,7 @@
 use Rattle.std.proofs.Common.{All, Bool, true, if◌then◌else◌, Some, [], ap, append_assoc, arith, count_by, length, nat_eq, not, slice_get, slice_index, subst, suc, sym, ℕ, ◌+◌, ◌++◌, ◌-◌, ◌<◌, ◌≤◌, ◌≡◌, ◌∙◌, ◌∷◌}
 use Rattle.std.proofs.lemmas.List.Elements.{All-append, All-cons, All-nil}
 use Rattle.std.proofs.lemmas.List.FromFn.{length-range_with_len}
-use Rattle.std.proofs.lemmas.List.{get_or_default}
+use Rattle.std.proofs.lemmas.List.{get_or_default, length-append}
 use Rattle.std.specs.List.{filter, range_with_len}
 use Rattle.sn_order.proofs.Placed.{counted_then, enough, free_left, is_left, left_is, placed_next, rest_within, targets_within, waits_at_first, within_count, within_range}
 use Rattle.sn_order.proofs.Waits.{nothing_left}
@@ -20,6 +20,7 @@ loop-init c =
           ∙ ap (λ n. placing nat_eq (rank_waits edges) n c.in_ok-left.left.keys) (let e : count - 0 ≡ count = omega arith in e)
           ∙ ap (λ xs. placing nat_eq (rank_waits edges) count xs) all;
       placed = subst (All (λ app. app < count)) (sym c.in_ok-order.ensures.items) (All-nil (λ app. app < count));
+      so_far = ap length c.in_ok-order.ensures.items;
       len = c.in_ok-counts.ensures.len;
       counts = λ app. c.in_ok-counts.ensures.counts app ∙ waits_at_first edges count app c.requires
           ∙ ap (λ xs. waits_for edges xs app) (sym all);
@@ -108,6 +109,8 @@ loop-preserved c =
           ∙ inv.order;
       placed = subst (All (λ x. x < count)) (sym c.in_ok-push.ensures.items)
           (All-append (λ x. x < count) c.loop.order.items (app ∷ []) inv.placed (All-cons (λ x. x < count) app [] app_within (All-nil (λ x. x < count))));
+      so_far = ap length c.in_ok-push.ensures.items ∙ length-append c.loop.order.items (app ∷ [])
+          ∙ ap (λ n. n + 1) inv.so_far;
       len = c.in_ok-release.ensures.len ∙ inv.len;
       counts = λ x. counted_then edges count counts left c.loop.free.keys app inv.counts inv.free inv.rising inv.within next c.release.new.counts.items
           (λ y. ap (λ xs. slice_index c.release.new.counts.items y + count_by (nat_eq y) xs) (sym targets_are) ∙ c.in_ok-release.ensures.counts y) x

@@ -12,6 +12,7 @@ invariant-loop l = record {
   order : l.order.items ++ placing nat_eq (rank_waits l.fn.edges) (l.fn.count - l.counter) l.left.keys
       ≡ rank_order l.fn.count l.fn.edges;
   placed : All (λ app. app < l.fn.count) l.order.items;
+  so_far : length l.order.items ≡ l.counter;
   len : length l.counts.items ≡ l.fn.count;
   counts : (app : ℕ) → slice_index l.counts.items app ≡ waits_for l.fn.edges l.left.keys app;
   free : l.free.keys ≡ filter (is_free l.counts.items) l.left.keys;
