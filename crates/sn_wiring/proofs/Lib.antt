@@ -1,0 +1,8 @@
+pub mod Opened
+pub mod Rows
+mod Losses
+mod Queued
+mod Scans
+pub mod Lines
+pub mod Comings
+mod Goings
