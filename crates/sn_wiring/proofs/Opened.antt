@@ -18,19 +18,20 @@ is_there None = false
 is_there (Some x) = true
 
 module _ {X : Type 0} (f : Option X → ℕ) (none : f None ≡ 0) where
-  same_sum : (old new : List (Option X)) → ((k : ℕ) → get_or new k None ≡ get_or old k None) → sum_by f new ≡ sum_by f old
+  pub same_sum : (old new : List (Option X)) → ((k : ℕ) → f (get_or new k None) ≡ f (get_or old k None))
+      → sum_by f new ≡ sum_by f old
   same_sum [] [] h = refl
   same_sum [] (n ∷ ns) h =
-      let a : f n ≡ 0 = ap f (h 0) ∙ none in
+      let a : f n ≡ 0 = h 0 ∙ none in
       let b : sum_by f ns ≡ 0 = same_sum [] ns (λ k. h (suc k)) in
       omega (arith, a, b, sum_by-cons f n ns)
   same_sum (o ∷ os) [] h =
-      let a : f o ≡ 0 = ap f (sym (h 0)) ∙ none in
+      let a : f o ≡ 0 = sym (h 0) ∙ none in
       let b : 0 ≡ sum_by f os = same_sum os [] (λ k. h (suc k)) in
       let c : sum_by f (o ∷ os) ≡ f o + sum_by f os = sum_by-cons f o os in
       omega (arith, a, b, c)
   same_sum (o ∷ os) (n ∷ ns) h =
-      let a : f n ≡ f o = ap f (h 0) in
+      let a : f n ≡ f o = h 0 in
       let b : sum_by f ns ≡ sum_by f os = same_sum os ns (λ k. h (suc k)) in
       omega (arith, a, b, sum_by-cons f n ns, sum_by-cons f o os)
 
@@ -39,7 +40,7 @@ module _ {X : Type 0} (f : Option X → ℕ) (none : f None ≡ 0) where
   sum_opened old [] key x was is others = absurd (true≢false (sym (ap is_there is)))
   sum_opened [] (n ∷ ns) zero x was is others =
       let a : f n ≡ f (Some x) = ap f is in
-      let b : sum_by f ns ≡ 0 = same_sum [] ns (λ k. others (suc k) (λ e. omega (arith, e))) in
+      let b : sum_by f ns ≡ 0 = same_sum [] ns (λ k. ap f (others (suc k) (λ e. omega (arith, e)))) in
       let d : sum_by f [] ≡ 0 = refl in
       omega (arith, a, b, d, sum_by-cons f n ns)
   sum_opened [] (n ∷ ns) (suc key) x was is others =
@@ -50,7 +51,7 @@ module _ {X : Type 0} (f : Option X → ℕ) (none : f None ≡ 0) where
   sum_opened (o ∷ os) (n ∷ ns) zero x was is others =
       let a : f n ≡ f (Some x) = ap f is in
       let z : f o ≡ 0 = ap f was ∙ none in
-      let b : sum_by f ns ≡ sum_by f os = same_sum os ns (λ k. others (suc k) (λ e. omega (arith, e))) in
+      let b : sum_by f ns ≡ sum_by f os = same_sum os ns (λ k. ap f (others (suc k) (λ e. omega (arith, e)))) in
       omega (arith, a, b, z, sum_by-cons f n ns, sum_by-cons f o os)
   sum_opened (o ∷ os) (n ∷ ns) (suc key) x was is others =
       let a : f n ≡ f o = ap f (others 0 (λ e. omega (arith, e))) in

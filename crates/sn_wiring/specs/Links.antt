@@ -1,6 +1,6 @@
 -- How links come to a worker's slab and go from it, and which links stand there.
 use Rattle.std.specs.FinSet as finset
-use Rattle.std.specs.Prelude.{Bool, List, None, Option, Some, cond, slice_index_or, ℕ, ◌≡◌}
+use Rattle.std.specs.Prelude.{Bool, List, None, Option, Some, cond, length, slice_index_or, ℕ, ◌≡◌, ◌≤◌}
 use Rattle.sn_app.specs.Calls.{HasLink, row_of_link}
 use Rattle.sn_app.specs.Desk.{Queue, no_queue, with_queue}
 use Rattle.sn_app.specs.Hands.{frees_each}
@@ -39,3 +39,17 @@ pub record HasLines (roster : List LinkSpec) (slots : List (Option Line)) (links
 -- each link that stood stands yet, at its key
 pub record KeepsLinks (old new : List (Option Line)) : Type 0 where
   pub kept : (key : ℕ) (line : Line) → slot_at old key ≡ Some line → slot_at new key ≡ Some line
+
+-- the row of what is at a key
+abbrev pub row_there : Option Line → Option ℕ
+row_there None = None
+row_there (Some line) = Some line.row
+
+-- at each key stands a link of the same row, or none as before
+pub record SameRows (old new : List (Option Line)) : Type 0 where
+  pub rows : (key : ℕ) → row_there (slot_at new key) ≡ row_there (slot_at old key)
+
+-- each link is of a row of the roster, and no two are of one row
+pub record FitsRoster (roster : List LinkSpec) (slots : List (Option Line)) : Type 0 where
+  pub named : (row : ℕ) → length roster ≤ row → rows_in row slots ≡ 0
+  pub once : (row : ℕ) → rows_in row slots ≤ 1

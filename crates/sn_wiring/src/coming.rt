@@ -6,7 +6,7 @@ ghost use Rattle.sn_app.specs.Desk.{Tray, roster_of};
 ghost use Rattle.sn_app.specs.Runs.{Runs};
 ghost use Rattle.sn_app.specs.World.{Used, rows_in, world};
 ghost use Rattle.sn_names.specs.LinkOrder.{link_cmp};
-ghost use Rattle.sn_wiring.specs.Links.{HasLines, KeepsLinks, opens};
+ghost use Rattle.sn_wiring.specs.Links.{FitsRoster, HasLines, KeepsLinks, opens};
 
 use slab::Slab;
 use sn_app::Ctx;
@@ -35,6 +35,8 @@ pub fn open_link<C: Ctx>(
     ensures lines { OnOk result ((some : finset.FinSet link_cmp)
         → HasLines (roster_of (C.tray ctx.now)).links links.old.slots some
         → HasLines (roster_of (C.tray ctx.now)).links links.new.slots (finset.insert some link.now)) }
+    ensures fits { OnOk result (FitsRoster (roster_of (C.tray ctx.now)).links links.old.slots
+        → FitsRoster (roster_of (C.tray ctx.now)).links links.new.slots) }
     ensures kept { OnOk result (KeepsLinks links.old.slots links.new.slots) }
     ensures err { OnErr result (links.new.slots ≡ links.old.slots) }
 {

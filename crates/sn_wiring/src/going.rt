@@ -10,7 +10,7 @@ ghost use Rattle.sn_app.specs.World.{IsSound, nowhere, places_of, rows_in, world
 ghost use Rattle.sn_link.specs.Link.{Line};
 ghost use Rattle.sn_names.specs.LinkOrder.{link_cmp};
 ghost use Rattle.sn_packet.specs.Hold.{among};
-ghost use Rattle.sn_wiring.specs.Links.{HasLines, closes, slot_at};
+ghost use Rattle.sn_wiring.specs.Links.{FitsRoster, HasLines, closes, slot_at};
 
 use crate::keys::key_of_row;
 use slab::Slab;
@@ -48,6 +48,8 @@ pub fn free_link<C: Ctx>(ctx: &mut C, links: &mut Slab<Link>, link: &LinkSpec)
         → rows_in row links.new.slots ≡ rows_in row links.old.slots }
     ensures lines { (some : finset.FinSet link_cmp) → HasLines (roster_of (C.tray ctx.old)).links links.old.slots some
         → HasLines (roster_of (C.tray ctx.old)).links links.new.slots (finset.remove some link.now) }
+    ensures fits { FitsRoster (roster_of (C.tray ctx.old)).links links.old.slots
+        → FitsRoster (roster_of (C.tray ctx.old)).links links.new.slots }
     ensures kept { (key : ℕ) (line : Line) → line.row ≢ row_of_link (roster_of (C.tray ctx.old)).links link.now
         → slot_at links.old.slots key ≡ Some line → slot_at links.new.slots key ≡ Some line }
     ensures lent { C.lender ctx.new ≡ C.lender ctx.old }

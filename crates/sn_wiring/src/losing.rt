@@ -1,9 +1,8 @@
 //! The links of a network are lost, and their counts are kept.
-ghost use Rattle.std.specs.Prelude.{◌≡◌, ◌<◌, ◌≤◌, ℕ, [], Some, length};
+ghost use Rattle.std.specs.Prelude.{◌≡◌, []};
 ghost use Rattle.sn_app.specs.Desk.{roster_of};
-ghost use Rattle.sn_app.specs.World.{desk_of, rows_in, world};
-ghost use Rattle.sn_link.specs.Link.{Line};
-ghost use Rattle.sn_wiring.specs.Links.{slot_at};
+ghost use Rattle.sn_app.specs.World.{desk_of, world};
+ghost use Rattle.sn_wiring.specs.Links.{FitsRoster};
 ghost use Rattle.sn_wiring.specs.Lost.{lost};
 
 use slab::Slab;
@@ -12,9 +11,7 @@ use sn_link::Link;
 
 /// All links are lost. The counts of each are added to those of its row.
 pub fn lose_links<C: Ctx>(ctx: &mut C, links: Slab<Link>)
-    requires named { (key : ℕ) (line : Line) → slot_at links.slots key ≡ Some line
-        → line.row < length (roster_of (C.tray ctx.old)).links }
-    requires once { (row : ℕ) → rows_in row links.slots ≤ 1 }
+    requires { FitsRoster (roster_of (C.tray ctx.old)).links links.slots }
     ensures lost { desk_of (world (C.tray ctx.new) (C.used ctx.new) [])
         ≡ lost (desk_of (world (C.tray ctx.old) (C.used ctx.old) links.slots)) }
     ensures used { C.used ctx.new ≡ C.used ctx.old }

@@ -3,6 +3,7 @@ use Rattle.sn_app.specs.Calls.{row_of_link}
 use Rattle.sn_app.specs.Desk.{roster_of}
 use Rattle.sn_link.specs.Link.{Line, new_line}
 use Rattle.sn_wiring.proofs.Comings.{runs_opens}
+use Rattle.sn_wiring.proofs.Fits.{fits_come}
 use Rattle.sn_wiring.proofs.Lines.{lines_come}
 use Rattle.sn_wiring.proofs.Opened.{rows_more, rows_other}
 use Rattle.sn_wiring.proofs.coming.open_link.Goals as goal
@@ -37,3 +38,8 @@ returns-clause-lines g c = λ some has.
     let roster = (roster_of (g.C.Ctx.tray c.args.ctx.now)).links in
     lines_come roster c.args.links.now.slots c.insert.new.self.slots c.args.link.now some c.requires.link
     (returns-clause-others g c) has (returns-clause-here g c)
+
+pub returns-clause-fits : goal.returns-clause-fits
+returns-clause-fits g c = λ fits.
+    fits_come (roster_of (g.C.Ctx.tray c.args.ctx.now)).links c.args.links.now.slots c.insert.new.self.slots c.args.link.now
+    c.requires.link (returns-clause-others g c) fits (returns-clause-here g c)

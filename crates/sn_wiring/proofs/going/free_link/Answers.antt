@@ -6,6 +6,7 @@ use Rattle.sn_names.specs.Rosters.{RosterRows}
 use Rattle.sn_link.specs.declared.counts.LinkCounts.{LinkCounts}
 use Rattle.std.specs.Prelude.{unwrap_or}
 use Rattle.sn_wiring.proofs.Goings.{kept_out, roster_stays, runs_closes, sound_out}
+use Rattle.sn_wiring.proofs.Fits.{fits_go}
 use Rattle.sn_wiring.proofs.Lines.{lines_go}
 use Rattle.sn_wiring.proofs.Opened.{Opened, rows_more, rows_other}
 use Rattle.sn_wiring.proofs.going.free_link.Goals as goal
@@ -68,3 +69,8 @@ pub returns-clause-lines : goal.returns-clause-lines
 returns-clause-lines g c = λ some has.
     lines_go (roster_of (g.C.Ctx.tray c.args.ctx.now)).links c.args.links.now.slots c.remove-gone.new.self.slots c.args.link.now some
     c.requires.link (returns-clause-others g c) has (returns-clause-gone g c)
+
+pub returns-clause-fits : goal.returns-clause-fits
+returns-clause-fits g c = λ fits.
+    fits_go (roster_of (g.C.Ctx.tray c.args.ctx.now)).links c.args.links.now.slots c.remove-gone.new.self.slots c.args.link.now
+    c.requires.link (returns-clause-others g c) fits (returns-clause-gone g c)
