@@ -1,5 +1,6 @@
 -- A link comes to a world, or goes from it, as a desk shows it.
-use Rattle.std.proofs.Common.{List, None, Ok, Option, Some, ap, arith, inl, inr, refl, subst, sym, ℕ, ◌∙◌, ◌≡◌, ◌≤◌, if◌then◌else◌}
+use Rattle.std.proofs.Common.{List, None, Ok, Option, Some, ap, arith, inl, inr, refl, subst, sym, ℕ, ◌∙◌, ◌≡◌, ◌≤◌}
+use Rattle.std.proofs.Common.{if◌then◌else◌}
 use mathlib.Core.Path.{fun_ext}
 use Rattle.std.proofs.lemmas.Bool.Decides.{eqb_tells}
 use Rattle.sn_link.specs.Link.{Line, new_line}
@@ -8,7 +9,8 @@ use Rattle.sn_app.specs.Answers.{Answers, Stays}
 use Rattle.sn_app.specs.Desk.{Desk, Queue, Tray, no_queue, with_queue}
 use Rattle.sn_app.specs.Reader.{change}
 use Rattle.sn_app.specs.Runs.{Moves, Runs}
-use Rattle.sn_app.specs.World.{IsSound, Used, World, desk_of, in_slot, misfits_of, nowhere, places_of, queue_in, queue_of, rows_in, world, ◌⊕◌}
+use Rattle.sn_app.specs.World.{IsSound, Used, World, desk_of, in_slot, misfits_of, nowhere, places_of, queue_in, queue_of}
+use Rattle.sn_app.specs.World.{rows_in, world, ◌⊕◌}
 use Rattle.sn_app.proofs.Readings.{answers_changed, stays_same}
 use Rattle.sn_wiring.specs.Links.{KeepsLinks, opens, slot_at}
 use Rattle.sn_wiring.proofs.Opened.{Opened, misfits_opened, places_opened, queues_past, rows_here, rows_opened, rows_past}
@@ -21,16 +23,19 @@ unfolding desk_of
 runs_changed f {w} {v} same log stays moves = record {
   answers =
       subst (λ d. Answers (change f) (desk_of w) d (Ok tt)) same
-      (answers_changed f (desk_of w) (ap (λ (d : Desk). d.tray.log) same ∙ log) (subst (λ (d : Desk). Stays w.tray d.tray) (sym same) stays));
+      (answers_changed f (desk_of w) (ap (λ (d : Desk). d.tray.log) same
+      ∙ log) (subst (λ (d : Desk). Stays w.tray d.tray) (sym same) stays));
   moves = λ x e. moves;
 }
 
-module _ {old new : List (Option Line)} {key : ℕ} {line : Line} (h : Opened old new key line) (none : rows_in line.row old ≡ 0) where
+module _ {old new : List (Option Line)} {key : ℕ} {line : Line} (h : Opened old new key line)
+    (none : rows_in line.row old ≡ 0) where
   row_once : rows_in line.row new ≤ 1
   row_once = omega (arith, rows_here h, none)
 
   -- a desk shows the link at its row, and nothing there without it
-  desk_with : (t : Tray) (u : Used) → with_queue line.row (Some (queue_of u line)) (desk_of (world t u old)) ≡ desk_of (world t u new)
+  desk_with : (t : Tray) (u : Used)
+      → with_queue line.row (Some (queue_of u line)) (desk_of (world t u old)) ≡ desk_of (world t u new)
   unfolding desk_of
   desk_with t u =
       ap (λ (queues : ℕ → Option Queue). record { tray = t; queues = queues })
@@ -86,7 +91,8 @@ module _ {old new : List (Option Line)} {key : ℕ} {line : Line} (h : Opened ol
 
 -- a link comes that nothing was sent on
 pub runs_opens : {old new : List (Option Line)} {key : ℕ} {line : Line} (row : ℕ) → Opened old new key line → line ≡ new_line row
-    → rows_in row old ≡ 0 → (t : Tray) (u : Used) (mine : ℕ → ℕ) → Runs (opens row) (world t u old) (world t u new) mine mine (Ok tt)
+    → rows_in row old ≡ 0 → (t : Tray) (u : Used) (mine : ℕ → ℕ) → Runs (opens row) (world t u old) (world t u new) mine mine
+    (Ok tt)
 unfolding opens queue_of in_slot misfits_of
 runs_opens {old} {new} {key} {line} row h is none t u mine =
     let fresh : Opened old new key (new_line row) = record { was = h.was; here = h.here ∙ ap Some is; others = h.others } in
@@ -101,7 +107,8 @@ keeps_links {old} {key = key} h = record {
   kept = λ other there is. h.others other (λ e. absurd (no_two old key other there e h.was is)) ∙ is;
 }
   where
-    no_two : (slots : List (Option Line)) (key other : ℕ) (there : Line) → other ≡ key → slot_at slots key ≡ None → slot_at slots other ≡ Some there → ⊥
+    no_two : (slots : List (Option Line)) (key other : ℕ) (there : Line) → other ≡ key → slot_at slots key ≡ None
+        → slot_at slots other ≡ Some there → ⊥
     no_two slots key other there e none some =
         let same : slot_at slots other ≡ None = ap (slot_at slots) e ∙ none in
         cc

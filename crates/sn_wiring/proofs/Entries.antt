@@ -1,6 +1,7 @@
 -- The ports of an app, as they are made from one entry of a map after another.
 use Rattle.std.specs.FinMap as finmap
-use Rattle.std.proofs.Common.{Bool, IsSome, List, None, Option, Some, [], ap, arith, false, get_or, length, subst, suc, sym, true, zero, ℕ, ◌++◌, ◌<◌, ◌∙◌, ◌∷◌, ◌≡◌, append_assoc, append-nil, bytes_eq, if◌then◌else◌}
+use Rattle.std.proofs.Common.{Bool, IsSome, List, None, Option, Some, [], ap, arith, false, get_or, length, subst, suc, sym, true}
+use Rattle.std.proofs.Common.{zero, ℕ, ◌++◌, ◌<◌, ◌∙◌, ◌∷◌, ◌≡◌, append_assoc, append-nil, bytes_eq, if◌then◌else◌}
 use Rattle.std.proofs.lemmas.List.{map_push}
 use Rattle.std.specs.List.Sorted.{IsStrictlySortedBy}
 use Rattle.std.specs.Map.{keys_of}
@@ -27,7 +28,8 @@ no_entry = (([], []), record { from = []; out = []; to = []; input = [] })
 
 module _ (slots : List (Option Line)) (roster : List LinkSpec) where
   each_from : (entries : List PortEntry) (d : PortEntry)
-      → ((i : ℕ) → i < length entries → HasLink roster (get_or entries i d).1 × (rows_in (row_of_link roster (get_or entries i d).1) slots ≡ 1))
+      → ((i : ℕ) → i < length entries → HasLink roster (get_or entries i d).1 × (rows_in (row_of_link roster
+      (get_or entries i d).1) slots ≡ 1))
       → EachThere slots roster entries
   unfolding EachThere
   each_from [] d there = tt
@@ -49,14 +51,16 @@ module _ (slots : List (Option Line)) (roster : List LinkSpec) where
             (found_entry port_cmp_total all i no_entry k),
       )))
 
-  pub first_there : (left : List PortEntry) (entry : PortEntry) (more : List PortEntry) → left ≡ entry ∷ more → EachThere slots roster left
+  pub first_there : (left : List PortEntry) (entry : PortEntry) (more : List PortEntry) → left ≡ entry ∷ more
+      → EachThere slots roster left
       → HasLink roster entry.1 × (rows_in (row_of_link roster entry.1) slots ≡ 1)
   unfolding EachThere
   first_there left entry more is there =
       let all : EachThere slots roster (entry ∷ more) = subst (λ (es : List PortEntry). EachThere slots roster es) is there in
       (all.0, all.1)
 
-  pub more_there : (left : List PortEntry) (entry : PortEntry) (more : List PortEntry) → left ≡ entry ∷ more → EachThere slots roster left
+  pub more_there : (left : List PortEntry) (entry : PortEntry) (more : List PortEntry) → left ≡ entry ∷ more
+      → EachThere slots roster left
       → EachThere slots roster more
   unfolding EachThere
   more_there left entry more is there =
@@ -75,7 +79,8 @@ linked_more slots ports port h held = record {
 }
   where
     by : (ports : List (List ℕ × ℕ)) (i : ℕ) → i < length (ports ++ port ∷ [])
-        → ((j : ℕ) → j < length ports → IsSome (slot_at slots (key_at ports j))) → IsSome (slot_at slots (key_at (ports ++ port ∷ []) i))
+        → ((j : ℕ) → j < length ports → IsSome (slot_at slots (key_at ports j))) → IsSome (slot_at slots (key_at
+        (ports ++ port ∷ []) i))
     by [] zero k all = held
     by [] (suc i) k all = absurd (omega (arith, k))
     by (first ∷ more) zero k all = all 0 (omega arith)
@@ -88,7 +93,8 @@ pub record Makes (slots : List (Option Line)) (roster : List LinkSpec) (name : L
   pub rows : rows_of slots ports ++ filter_map (port_of roster name) left ≡ filter_map (port_of roster name) all
   pub there : EachThere slots roster left
 
-module _ (slots : List (Option Line)) (roster : List LinkSpec) (name : List ℕ) (ports : List (List ℕ × ℕ)) (all : List PortEntry) where
+module _ (slots : List (Option Line)) (roster : List LinkSpec) (name : List ℕ) (ports : List (List ℕ × ℕ))
+    (all : List PortEntry) where
   pub makes_start : EachThere slots roster all → ports ≡ [] → Makes slots roster name ports all all
   unfolding rows_of
   makes_start there none = record {
@@ -97,7 +103,8 @@ module _ (slots : List (Option Line)) (roster : List LinkSpec) (name : List ℕ)
     there = there;
   }
 
-  module _ (left more : List PortEntry) (entry : PortEntry) (is : left ≡ entry ∷ more) (h : Makes slots roster name ports left all) where
+  module _ (left more : List PortEntry) (entry : PortEntry) (is : left ≡ entry ∷ more)
+      (h : Makes slots roster name ports left all) where
     -- a key of another app is passed over
     pub makes_past : bytes_eq entry.0.0 name ≡ false → Makes slots roster name ports more all
     makes_past other = record {
@@ -118,17 +125,21 @@ module _ (slots : List (Option Line)) (roster : List LinkSpec) (name : List ℕ)
       rows =
           ap (λ made. made ++ filter_map (port_of roster name) more)
           (map_push (λ (p : List ℕ × ℕ). (p.0, (line_at slots p.1).row)) ports port)
-          ∙ (append_assoc (rows_of slots ports) ((port.0, (line_at slots port.1).row) ∷ []) (filter_map (port_of roster name) more)
+          ∙ (append_assoc (rows_of slots ports) ((port.0, (line_at slots port.1).row) ∷ []) (filter_map
+          (port_of roster name) more)
           ∙ (ap (λ (r : ℕ). rows_of slots ports ++ (port.0, r) ∷ filter_map (port_of roster name) more) row
-          ∙ (ap (λ (n : List ℕ). rows_of slots ports ++ (n, row_of_link roster entry.1) ∷ filter_map (port_of roster name) more) named
-          ∙ (ap (λ (b : Bool). rows_of slots ports ++ with_first (if b then Some (entry.0.1, row_of_link roster entry.1) else None)
+          ∙ (ap (λ (n : List ℕ). rows_of slots ports ++ (n, row_of_link roster entry.1) ∷ filter_map
+          (port_of roster name) more) named
+          ∙ (ap (λ (b : Bool). rows_of slots ports ++ with_first (if b then Some
+          (entry.0.1, row_of_link roster entry.1) else None)
           (filter_map (port_of roster name) more)) (sym own)
           ∙ (ap (λ (es : List PortEntry). rows_of slots ports ++ filter_map (port_of roster name) es) (sym is) ∙ h.rows)))));
       there = more_there slots roster left entry more is h.there;
     }
 
 -- all entries are made
-pub makes_all : (slots : List (Option Line)) (roster : List LinkSpec) (name : List ℕ) (ports : List (List ℕ × ℕ)) (left all : List PortEntry)
+pub makes_all : (slots : List (Option Line)) (roster : List LinkSpec) (name : List ℕ) (ports : List (List ℕ × ℕ))
+    (left all : List PortEntry)
     → left ≡ [] → IsStrictlySortedBy port_cmp (keys_of all) → Makes slots roster name ports left all
     → Wired slots roster (finmap.from_entries all) name ports
 makes_all slots roster name ports left all none sorted h = record {
@@ -136,5 +147,6 @@ makes_all slots roster name ports left all none sorted h = record {
   rows =
       sym (append-nil (rows_of slots ports))
       ∙ (ap (λ (es : List PortEntry). rows_of slots ports ++ filter_map (port_of roster name) es) (sym none)
-      ∙ (h.rows ∙ ap (λ (es : List PortEntry). filter_map (port_of roster name) es) (sym (entries_same port_cmp_total all sorted))));
+      ∙ (h.rows ∙ ap (λ (es : List PortEntry). filter_map (port_of roster name) es) (sym
+      (entries_same port_cmp_total all sorted))));
 }

@@ -1,5 +1,6 @@
 -- Which rows the links of a slab have, as links come and go, and where their rows stay.
-use Rattle.std.proofs.Common.{IsSome, List, None, Option, Some, [], ap, arith, cond, get_or, inl, inr, length, refl, subst, sym, ℕ, ◌<◌, ◌∙◌, ◌==◌, ◌≡◌, ◌≢◌, ◌≤◌}
+use Rattle.std.proofs.Common.{IsSome, List, None, Option, Some, [], ap, arith, cond, get_or, inl, inr, length, refl, subst, sym}
+use Rattle.std.proofs.Common.{ℕ, ◌<◌, ◌∙◌, ◌==◌, ◌≡◌, ◌≢◌, ◌≤◌}
 use Rattle.std.proofs.lemmas.Bool.{cases_lt, true≢false}
 use Rattle.std.proofs.lemmas.Bool.Decides.{eqb_tells}
 use Rattle.std.specs.FinSet as finset

@@ -22,7 +22,8 @@ use Rattle.sn_wiring.proofs.Rows.{queue_there}
 use Rattle.sn_wiring.specs.Links.{closes, closing, slot_at}
 
 -- what never changes stays over a run
-pub roster_stays : {R : Type 0} {m : Meaning R} {t s : Tray} {u v : Used} {old new : List (Option Line)} {before after : ℕ → ℕ} {r : Result R Halt}
+pub roster_stays : {R : Type 0} {m : Meaning R} {t s : Tray} {u v : Used} {old new : List (Option Line)}
+    {before after : ℕ → ℕ} {r : Result R Halt}
     → Runs m (world t u old) (world s v new) before after r → roster_of s ≡ roster_of t
 unfolding desk_of
 roster_stays run = ap (λ constants. constants.roster) run.answers.stays.constants
@@ -48,14 +49,18 @@ module _ {old new : List (Option Line)} {key : ℕ} {line : Line} (h : Opened ol
       → z ≡ kept_counts row line.counts s → x ≡ v → Runs (closes row) (world t u new) (world z x old) nowhere nowhere (Ok tt)
   unfolding closes closing queue_of keeps_counts
   runs_closes {s} {z} {v} {x} row is freed tray used =
-      subst (λ r. z ≡ kept_counts r line.counts s → Runs (closes r) (world t u new) (world z x old) nowhere nowhere (Ok tt)) is whole tray
+      subst (λ r. z ≡ kept_counts r line.counts s → Runs (closes r) (world t u new) (world z x old) nowhere nowhere
+      (Ok tt)) is whole tray
     where
-      out : Runs (frees_each (queue_of u line).packets) (world t u old) (world s v old) (among (places_of line.queued)) nowhere (Ok true)
+      out : Runs (frees_each (queue_of u line).packets) (world t u old) (world s v old) (among (places_of line.queued)) nowhere
+          (Ok true)
       out =
-          subst (λ packets. Runs (frees_each packets) (world t u old) (world s v old) (among (places_of line.queued)) nowhere (Ok true))
+          subst (λ packets. Runs (frees_each packets) (world t u old) (world s v old) (among (places_of line.queued)) nowhere
+          (Ok true))
           (sym (packets_queued u line.queued)) freed
 
-      whole : z ≡ kept_counts line.row line.counts s → Runs (closes line.row) (world t u new) (world z x old) nowhere nowhere (Ok tt)
+      whole : z ≡ kept_counts line.row line.counts s
+          → Runs (closes line.row) (world t u new) (world z x old) nowhere nowhere (Ok tt)
       whole kept =
           runs_look (λ d. closing line.row (d.queues line.row))
           (subst (λ queue. Runs (closing line.row queue) (world t u new) (world z x old) nowhere nowhere (Ok tt)) (sym queue_here)

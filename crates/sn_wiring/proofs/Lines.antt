@@ -1,6 +1,7 @@
 -- Which links of a roster stand in the slab, by their rows.
 use Rattle.std.specs.FinSet as finset
-use Rattle.std.proofs.Common.{Bool, List, Option, [], ap, false, get_or, not, refl, subst, sym, true, ℕ, ◌&&◌, ◌∙◌, ◌≡◌, ◌≢◌, ◌||◌, bytes_eq, inl, inr}
+use Rattle.std.proofs.Common.{Bool, List, Option, [], ap, false, get_or, not, refl, subst, sym, true, ℕ, ◌&&◌, ◌∙◌, ◌≡◌, ◌≢◌}
+use Rattle.std.proofs.Common.{◌||◌, bytes_eq, inl, inr}
 use Rattle.std.proofs.lemmas.Bool.{and_parts}
 use Rattle.std.proofs.lemmas.Bool.Decides.{eqb_tells}
 use Rattle.std.proofs.lemmas.List.Sums.{passes_at_first}
@@ -30,8 +31,10 @@ names_same a b h =
     }
 
 -- two links of a roster that have one row are the same
-pub link_at_row : (roster : List LinkSpec) (link d : LinkSpec) → HasLink roster link → get_or roster (row_of_link roster link) d ≡ link
-link_at_row roster link d has = sym (names_same link (get_or roster (row_of_link roster link) d) (passes_at_first (same_link link) roster d has))
+pub link_at_row : (roster : List LinkSpec) (link d : LinkSpec) → HasLink roster link
+    → get_or roster (row_of_link roster link) d ≡ link
+link_at_row roster link d has = sym (names_same link (get_or roster (row_of_link roster link) d) (passes_at_first
+    (same_link link) roster d has))
 
 pub same_row : (roster : List LinkSpec) (a b : LinkSpec) → HasLink roster a → HasLink roster b
     → row_of_link roster a ≡ row_of_link roster b → a ≡ b

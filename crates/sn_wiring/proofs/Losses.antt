@@ -1,5 +1,6 @@
 -- The counts of all links are kept, one link after another, and that is what a desk shows of their loss.
-use Rattle.std.proofs.Common.{Bool, List, None, Option, Some, [], ap, add-one, arith, drop, get_or, length, refl, set, suc, sym, zero, ℕ, ◌+◌, ◌∙◌, ◌∷◌, ◌≡◌, ◌≢◌, ◌≤◌, if◌then◌else◌}
+use Rattle.std.proofs.Common.{Bool, List, None, Option, Some, [], ap, add-one, arith, drop, get_or, length, refl, set, suc, sym}
+use Rattle.std.proofs.Common.{zero, ℕ, ◌+◌, ◌∙◌, ◌∷◌, ◌≡◌, ◌≢◌, ◌≤◌, if◌then◌else◌}
 use Rattle.std.proofs.lemmas.Bool.{ne_eqb}
 use Rattle.sn_link.specs.Counts.{no_counts}
 use Rattle.sn_link.specs.Link.{Line}
@@ -53,7 +54,8 @@ same_counts p q row (counts ∷ more) same =
     ap (λ queue. with_counts_of queue counts ∷ with_all_counts p (suc row) more) (same row (omega arith))
     ∙ ap (λ rest. with_counts_of (q row) counts ∷ rest) (same_counts p q (suc row) more (λ r k. same r (omega (arith, k))))
 
-none_counts : (p : ℕ → Option Queue) (row : ℕ) (links : List LinkCounts) → ((r : ℕ) → p r ≡ None) → with_all_counts p row links ≡ links
+none_counts : (p : ℕ → Option Queue) (row : ℕ) (links : List LinkCounts) → ((r : ℕ) → p r ≡ None)
+    → with_all_counts p row links ≡ links
 none_counts p row [] none = refl
 none_counts p row (counts ∷ more) none =
     ap (λ queue. with_counts_of queue counts ∷ with_all_counts p (suc row) more) (none row)
@@ -73,9 +75,11 @@ one_more p q base zero row queue (counts ∷ more) at none some others =
     ∙ ap (λ rest. with_counts_of (q base) counts ∷ rest)
     (same_counts p q (suc base) more (λ r k. others r (λ e. omega (arith, k, e, here)))))
 one_more p q base (suc i) row queue (counts ∷ more) at none some others =
-    ap (λ o. with_counts_of o counts ∷ with_all_counts p (suc base) (set more i (with_added queue.counts (get_or more i no_counts))))
+    ap (λ o. with_counts_of o counts ∷ with_all_counts p (suc base) (set more i (with_added queue.counts
+    (get_or more i no_counts))))
     (others base (λ e. omega (arith, at, e)))
-    ∙ ap (λ rest. with_counts_of (q base) counts ∷ rest) (one_more p q (suc base) i row queue more (omega (arith, at)) none some others)
+    ∙ ap (λ rest. with_counts_of (q base) counts ∷ rest) (one_more p q (suc base) i row queue more (omega
+    (arith, at)) none some others)
 
 abbrev with_links : List LinkCounts → Tray → Tray
 with_links links t = record t { counters = record t.counters { links = links } }
@@ -103,7 +107,8 @@ all_counted u (Some line ∷ slots) t once =
     (λ r apart. sym (past_slot u line r (queue_in u slots r) apart)))
 
 -- all links are lost
-pub desk_lost : (u v : Used) (slots : List (Option Line)) (t s : Tray) → ((row : ℕ) → rows_in row slots ≤ 1) → s ≡ all_kept slots t
+pub desk_lost : (u v : Used) (slots : List (Option Line)) (t s : Tray) → ((row : ℕ) → rows_in row slots ≤ 1)
+    → s ≡ all_kept slots t
     → desk_of (world s v []) ≡ lost (desk_of (world t u slots))
 unfolding desk_of queue_in
 desk_lost u v slots t s once is =

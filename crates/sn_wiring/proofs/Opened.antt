@@ -1,5 +1,6 @@
 -- Slots of two lists that differ at one key, where the one has a link and the other has none.
-use Rattle.std.proofs.Common.{Bool, List, None, Option, Some, [], ap, arith, false, get_or, refl, subst, suc, sym, true, zero, ℕ, ◌+◌, ◌∙◌, ◌∷◌, ◌≡◌, ◌≢◌, if◌then◌else◌}
+use Rattle.std.proofs.Common.{Bool, List, None, Option, Some, [], ap, arith, false, get_or, refl, subst, suc, sym, true, zero, ℕ}
+use Rattle.std.proofs.Common.{◌+◌, ◌∙◌, ◌∷◌, ◌≡◌, ◌≢◌, if◌then◌else◌}
 use Rattle.std.proofs.lemmas.Bool.{eq-eqb, ne_eqb, true≢false}
 use Rattle.std.proofs.lemmas.List.Sums.{sum_by-cons}
 use Rattle.std.specs.List.{sum_by}
@@ -72,7 +73,8 @@ module _ (u : Used) (row : ℕ) where
       ap (λ slot. queue_or u row slot (queue_in u ns row)) (h 0)
       ∙ ap (queue_or u row o) (same_queue os ns (λ k. h (suc k)))
 
-  queue_opened : (old new : List (Option Line)) (key : ℕ) (line : Line) → get_or old key None ≡ None → get_or new key None ≡ Some line
+  queue_opened : (old new : List (Option Line)) (key : ℕ) (line : Line) → get_or old key None ≡ None
+      → get_or new key None ≡ Some line
       → ((other : ℕ) → other ≢ key → get_or new other None ≡ get_or old other None) → has_row row (Some line) ≡ 0
       → queue_in u new row ≡ queue_in u old row
   unfolding queue_in queue_or

@@ -38,6 +38,7 @@ no_places [] e = refl
 no_places (first ∷ rest) e = absurd (omega (arith, e))
 
 -- the packets of a queue are those at its places
-pub packets_queued : (u : Used) (queued : List (ℕ × ℕ)) → map (λ (entry : ℕ × ℕ). packet_at u entry.0) queued ≡ packets_at u (places_of queued)
+pub packets_queued : (u : Used) (queued : List (ℕ × ℕ))
+    → map (λ (entry : ℕ × ℕ). packet_at u entry.0) queued ≡ packets_at u (places_of queued)
 packets_queued u [] = refl
 packets_queued u (first ∷ rest) = ap (λ (packets : List PacketState). packet_at u first.0 ∷ packets) (packets_queued u rest)

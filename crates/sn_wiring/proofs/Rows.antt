@@ -1,5 +1,6 @@
 -- Links by their rows: how many have one, and the queue that a desk shows there.
-use Rattle.std.proofs.Common.{Bool, List, None, Option, Some, [], ap, arith, cond, false, get_or, refl, suc, true, zero, ℕ, ◌+◌, ◌∙◌, ◌∷◌, ◌==◌, ◌≡◌, ◌≤◌, if◌then◌else◌}
+use Rattle.std.proofs.Common.{Bool, List, None, Option, Some, [], ap, arith, cond, false, get_or, refl, suc, true, zero, ℕ, ◌+◌}
+use Rattle.std.proofs.Common.{◌∙◌, ◌∷◌, ◌==◌, ◌≡◌, ◌≤◌, if◌then◌else◌}
 use Rattle.std.proofs.lemmas.Bool.{eq-eqb}
 use Rattle.std.proofs.lemmas.List.Sums.{sum_by-cons}
 use Rattle.sn_link.specs.Link.{Line}
@@ -36,7 +37,8 @@ pub queue_own : (u : Used) (line : Line) (other : Option Queue) → queue_or u l
 unfolding queue_or
 queue_own u line other = ap (λ b. if b then Some (queue_of u line) else other) (eq-eqb line.row line.row refl)
 
-pub row_within : (slots : List (Option Line)) (key : ℕ) (line : Line) → get_or slots key None ≡ Some line → 1 ≤ rows_in line.row slots
+pub row_within : (slots : List (Option Line)) (key : ℕ) (line : Line) → get_or slots key None ≡ Some line
+    → 1 ≤ rows_in line.row slots
 row_within [] key line there = absurd cc
 row_within (slot ∷ slots) zero line there =
     omega (arith, rows_first line.row slot slots, ap (has_row line.row) there, own_row line)

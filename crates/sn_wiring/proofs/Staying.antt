@@ -1,7 +1,8 @@
 -- Where an app's ports stay wired, and where what is at a map's keys stands.
 use Rattle.std.specs.FinMap as finmap
 use Rattle.std.specs.FinSet as finset
-use Rattle.std.proofs.Common.{IsSome, List, None, Option, Some, [], ap, arith, length, refl, suc, sym, true, ℕ, ◌<◌, ◌∙◌, ◌∷◌, ◌≡◌}
+use Rattle.std.proofs.Common.{IsSome, List, None, Option, Some, [], ap, arith, length, refl, suc, sym, true, ℕ, ◌<◌, ◌∙◌, ◌∷◌}
+use Rattle.std.proofs.Common.{◌≡◌}
 use Rattle.std.proofs.lemmas.Bool.{true≢false}
 use Rattle.std.specs.Prelude.{unwrap_or}
 use Rattle.sn_app.specs.Calls.{HasLink}
@@ -43,12 +44,17 @@ module _ (roster : List LinkSpec) (at : PortMap) (name : List ℕ) (ports : List
   -- and where a link comes
   pub wired_yet : KeepsLinks old new → Wired new roster at name ports
   wired_yet keeps = record {
-    linked = record { held = λ i k. some_too (slot_at old (key_at ports i)) (slot_at new (key_at ports i)) (same i k) (wired.linked.held i k) };
-    rows = rows_alike old new ports (λ i k. ap (λ (slot : Option Line). (unwrap_or slot (new_line 0)).row) (same i k)) ∙ wired.rows;
+    linked = record {
+      held = λ i k. some_too (slot_at old (key_at ports i)) (slot_at new (key_at ports i)) (same i k)
+          (wired.linked.held i k);
+    };
+    rows = rows_alike old new ports (λ i k. ap (λ (slot : Option Line). (unwrap_or slot (new_line 0)).row) (same i k))
+        ∙ wired.rows;
   }
     where
       same : (i : ℕ) → i < length ports → slot_at new (key_at ports i) ≡ slot_at old (key_at ports i)
-      same i k = the_same (slot_at old (key_at ports i)) (slot_at new (key_at ports i)) (wired.linked.held i k) (keeps.kept (key_at ports i))
+      same i k = the_same (slot_at old (key_at ports i)) (slot_at new (key_at ports i)) (wired.linked.held i k) (keeps.kept
+          (key_at ports i))
 
 -- what is at the keys is among the links that stand
 pub there_among : (roster : List LinkSpec) (slots : List (Option Line)) (links : finset.FinSet link_cmp) (at : PortMap)

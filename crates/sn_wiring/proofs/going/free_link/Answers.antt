@@ -36,9 +36,11 @@ returns-clause-runs g c =
     record { was = out.updates.changed; here = out.value; others = λ other apart. sym (out.updates.others other apart) } in
     let counts = c.counts-counts.ensures in
     runs_closes opened c.requires.sound row
-    (sym (ap (λ (slot : Option Line). (unwrap_or slot (new_line 0)).row) out.value) ∙ c.key_of_row-key.ensures.row ∙ c.link_row-row.ensures)
+    (sym (ap (λ (slot : Option Line). (unwrap_or slot (new_line 0)).row) out.value) ∙ c.key_of_row-key.ensures.row
+    ∙ c.link_row-row.ensures)
     (c.free_queued.ensures.frees c.remove-gone.new.self.slots (sound_out opened c.requires.sound))
-    (c.keep_counts.ensures.tray ∙ ap (λ r. kept_counts r c.counts-counts.result (g.C.Ctx.tray c.free_queued.new.ctx)) c.link_row-row.ensures
+    (c.keep_counts.ensures.tray ∙ ap (λ r. kept_counts r c.counts-counts.result
+    (g.C.Ctx.tray c.free_queued.new.ctx)) c.link_row-row.ensures
     ∙ ap (λ (more : LinkCounts). kept_counts row more (g.C.Ctx.tray c.free_queued.new.ctx)) counts)
     c.keep_counts.ensures.used
 
@@ -52,7 +54,8 @@ returns-clause-gone g c =
       arith,
       c.requires.here,
       rows_more row opened
-          (sym (ap (λ (slot : Option Line). (unwrap_or slot (new_line 0)).row) out.value) ∙ c.key_of_row-key.ensures.row ∙ c.link_row-row.ensures),
+          (sym (ap (λ (slot : Option Line). (unwrap_or slot (new_line 0)).row) out.value) ∙ c.key_of_row-key.ensures.row
+          ∙ c.link_row-row.ensures),
     )
 
 pub returns-clause-others : goal.returns-clause-others
@@ -62,12 +65,14 @@ returns-clause-others g c = λ other apart.
     let opened : Opened c.remove-gone.new.self.slots c.args.links.now.slots c.key_of_row-key.result c.remove-gone.result =
     record { was = out.updates.changed; here = out.value; others = λ other apart. sym (out.updates.others other apart) } in
     sym (rows_other row opened
-    (sym (ap (λ (slot : Option Line). (unwrap_or slot (new_line 0)).row) out.value) ∙ c.key_of_row-key.ensures.row ∙ c.link_row-row.ensures)
+    (sym (ap (λ (slot : Option Line). (unwrap_or slot (new_line 0)).row) out.value) ∙ c.key_of_row-key.ensures.row
+    ∙ c.link_row-row.ensures)
     other apart)
 
 pub returns-clause-lines : goal.returns-clause-lines
 returns-clause-lines g c = λ some has.
-    lines_go (roster_of (g.C.Ctx.tray c.args.ctx.now)).links c.args.links.now.slots c.remove-gone.new.self.slots c.args.link.now some
+    lines_go (roster_of (g.C.Ctx.tray c.args.ctx.now)).links c.args.links.now.slots c.remove-gone.new.self.slots
+    c.args.link.now some
     c.requires.link (returns-clause-others g c) has (returns-clause-gone g c)
 
 pub returns-clause-fits : goal.returns-clause-fits

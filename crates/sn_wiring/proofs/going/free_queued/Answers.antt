@@ -77,5 +77,6 @@ returns-clause-frees g c = λ slots h.
     freed_all start
     (subst (λ places. Leads (frees_each (packets_at start places)) (frees_each (packets_at start all))
     (world (g.C.Ctx.tray c.args.ctx.now) start slots)
-    (world (g.C.Ctx.tray c.loop-turn.ctx) (g.C.Ctx.used c.loop-turn.ctx) slots) (among all) (among places)) (no_places queued none)
+    (world (g.C.Ctx.tray c.loop-turn.ctx) (g.C.Ctx.used c.loop-turn.ctx) slots) (among all) (among places))
+    (no_places queued none)
     (c.loop-turn.invariant.leads slots h))

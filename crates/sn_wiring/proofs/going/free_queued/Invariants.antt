@@ -12,7 +12,8 @@ invariant-loop-turn g l = record {
   lent : g.C.Ctx.lender l.ctx ≡ g.C.Ctx.lender l.fn.ctx;
   kept : AreKept (g.C.Ctx.used l.ctx) (among (places_of l.link.queued));
   same : (q : ℕ) → 0 < among (places_of l.link.queued) q → g.C.Ctx.used l.ctx q ≡ g.C.Ctx.used l.fn.ctx q;
-  leads : (slots : List (Option Line)) → IsSound (world (g.C.Ctx.tray l.fn.ctx) (g.C.Ctx.used l.fn.ctx) slots) (among (places_of l.fn.link.queued))
+  leads : (slots : List (Option Line))
+      → IsSound (world (g.C.Ctx.tray l.fn.ctx) (g.C.Ctx.used l.fn.ctx) slots) (among (places_of l.fn.link.queued))
       → Leads (frees_each (packets_at (g.C.Ctx.used l.fn.ctx) (places_of l.link.queued)))
       (frees_each (packets_at (g.C.Ctx.used l.fn.ctx) (places_of l.fn.link.queued)))
       (world (g.C.Ctx.tray l.fn.ctx) (g.C.Ctx.used l.fn.ctx) slots) (world (g.C.Ctx.tray l.ctx) (g.C.Ctx.used l.ctx) slots)

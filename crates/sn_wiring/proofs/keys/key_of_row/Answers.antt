@@ -20,5 +20,6 @@ unreachable-requires c =
     omega (
       arith,
       c.loop-key.invariant,
-      none_left c.args.row c.args.links.now.slots c.loop-key.key (omega (arith, c.loop-key-test.false, c.capacity-key-end.ensures.slots)),
+      none_left c.args.row c.args.links.now.slots c.loop-key.key (omega
+          (arith, c.loop-key-test.false, c.capacity-key-end.ensures.slots)),
     )

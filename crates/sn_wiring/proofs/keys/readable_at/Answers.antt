@@ -6,7 +6,8 @@ use Rattle.sn_wiring.proofs.keys.readable_at.Goals.{in-Some+else-row, in_default
 
 pub returns-then-row : goal.returns-then-row
 returns-then-row c = λ t u.
-    found_readable u c.args.row t c.args.links.now.slots c.loop-key.key c.nreadable.result c.in-Some.link.now (sym c.in-Some.ensures)
+    found_readable u c.args.row t c.args.links.now.slots c.loop-key.key c.nreadable.result c.in-Some.link.now
+    (sym c.in-Some.ensures)
     (sym c.row.ensures ∙ c.if-row.true) (c.loop-key.invariant u) c.nreadable.ensures.value
 
 pub loop-key-preserved : goal.loop-key-preserved

@@ -11,7 +11,8 @@ loop-key-init g c =
     let all : List PortEntry = c.args.at.now.entries in
     let begins : c.into_iter-key-iterator.result ≡ all = c.into_iter-key-iterator.ensures.into_iter_gives.0 in
     subst (λ (left : List PortEntry). Makes slots roster c.args.name.now c.new-ports.result.items left all) (sym begins)
-    (makes_start slots roster c.args.name.now c.new-ports.result.items all (each_there slots roster all c.recall_keys.ensures c.requires)
+    (makes_start slots roster c.args.name.now c.new-ports.result.items all
+    (each_there slots roster all c.recall_keys.ensures c.requires)
     c.new-ports.ensures.items)
 
 pub port_to-requires : goal.port_to-requires
@@ -28,7 +29,8 @@ loop-key-preserved g c =
     let slots = c.args.links.now.slots in
     let roster = (roster_of (g.C.Ctx.tray c.args.ctx.now)).links in
     let entry : PortEntry = (c.in-Some.key.now, c.in-Some.link.now) in
-    makes_past slots roster c.args.name.now c.loop-key.ports.items c.args.at.now.entries c.loop-key.key-iterator c.next.new.self entry
+    makes_past slots roster c.args.name.now c.loop-key.ports.items c.args.at.now.entries c.loop-key.key-iterator
+    c.next.new.self entry
     c.in-Some.ensures.steps c.loop-key.invariant (sym c.if-is_of_app.ensures)
 
 pub loop-key-preserved-in_ok-push : goal.loop-key-preserved-in_ok-push
@@ -39,7 +41,8 @@ loop-key-preserved-in_ok-push g c =
     let entry : PortEntry = (c.in-Some.key.now, c.in-Some.link.now) in
     let port : List ℕ × ℕ = c.in_ok-port_to.field-0 in
     let made = c.in_ok-port_to.ensures in
-    subst (λ (ports : List (List ℕ × ℕ)). Makes slots roster c.args.name.now ports c.next.new.self all) (sym c.in_ok-push.ensures.items)
+    subst (λ (ports : List (List ℕ × ℕ)). Makes slots roster c.args.name.now ports c.next.new.self all)
+    (sym c.in_ok-push.ensures.items)
     (makes_port slots roster c.args.name.now c.loop-key.ports.items all c.loop-key.key-iterator c.next.new.self entry
     c.in-Some.ensures.steps c.loop-key.invariant port (sym c.if-is_of_app.ensures) made.name made.there made.row)
 
