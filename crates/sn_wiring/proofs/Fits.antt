@@ -87,22 +87,27 @@ there_too None b e some = absurd (true≢false (sym some))
 there_too (Some x) None e some = absurd cc
 there_too (Some x) (Some y) e some = refl
 
+none_too : (a b : Option Line) → row_there b ≡ row_there a → a ≡ None → b ≡ None
+none_too None None e gone = refl
+none_too None (Some y) e gone = absurd cc
+none_too (Some x) b e gone = absurd cc
+
 -- as an app's call says it
 pub same_keeps : (old new : List (Option Line)) → SameRows old new → KeepsRows old new
 same_keeps old new same = record {
   rows = λ key. row_seen (slot_at new key) ∙ (ap row_or_none (same.rows key) ∙ sym (row_seen (slot_at old key)));
   held = λ key some. there_too (slot_at old key) (slot_at new key) (same.rows key) some;
+  none = λ key gone. none_too (slot_at old key) (slot_at new key) (same.rows key) gone;
 }
 
 by_both : (a b : Option Line) → (unwrap_or b (new_line 0)).row ≡ (unwrap_or a (new_line 0)).row → (IsSome a → IsSome b)
-    → (IsSome b → IsSome a) → row_there b ≡ row_there a
-by_both None None rows held back = refl
-by_both None (Some y) rows held back = absurd (true≢false (sym (back refl)))
-by_both (Some x) None rows held back = absurd (true≢false (sym (held refl)))
-by_both (Some x) (Some y) rows held back = ap Some rows
+    → (a ≡ None → b ≡ None) → row_there b ≡ row_there a
+by_both None None rows held none = refl
+by_both None (Some y) rows held none = ap row_there (none refl)
+by_both (Some x) None rows held none = absurd (true≢false (sym (held refl)))
+by_both (Some x) (Some y) rows held none = ap Some rows
 
-pub keeps_same : (old new : List (Option Line)) → KeepsRows old new
-    → ((key : ℕ) → IsSome (slot_at new key) → IsSome (slot_at old key)) → SameRows old new
-keeps_same old new keeps back = record {
-  rows = λ key. by_both (slot_at old key) (slot_at new key) (keeps.rows key) (keeps.held key) (back key);
+pub keeps_same : (old new : List (Option Line)) → KeepsRows old new → SameRows old new
+keeps_same old new keeps = record {
+  rows = λ key. by_both (slot_at old key) (slot_at new key) (keeps.rows key) (keeps.held key) (keeps.none key);
 }
