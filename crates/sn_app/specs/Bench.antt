@@ -3,7 +3,7 @@ use Rattle.std.specs.Prelude.{ℕ, zero, suc, if◌then◌else◌, ◌<◌, ◌^
 use Rattle.sn_core.specs.declared.events.Side.{Side}
 use Rattle.sn_core.specs.declared.events.Side.TheVariants.{Tx, Rx}
 use Rattle.sn_journal.specs.declared.entry.Entry.{Entry}
-use Rattle.sn_journal.specs.declared.entry.Entry.TheVariants.{Dry, Got}
+use Rattle.sn_journal.specs.declared.entry.Entry.TheVariants.{Breath, Dry, Got, Hear, Round, Spent}
 use Rattle.sn_names.specs.Rosters.{RosterRows}
 use Rattle.sn_packet.specs.Hold.{Held, frees_of}
 use Rattle.sn_app.specs.Answers.{OnTray}
@@ -72,9 +72,13 @@ bench_of held tape lanes counters files roster captures bare = record {
   bare = bare;
 }
 
--- Which entries may come: without a script only that a claim found nothing.
+-- Which entries may come: without a script only that a claim found nothing, and what the worker itself notes.
 abbrev pub may_come : Bool → Entry → Bool
 may_come true Dry = true
+may_come true (Round r) = true
+may_come true (Hear n) = true
+may_come true Breath = true
+may_come true Spent = true
 may_come true _ = false
 may_come false entry = true
 
