@@ -13,3 +13,4 @@ pub use action::Action;
 pub use differences::diff;
 pub use fault::ActionFault;
 pub use plain::Plain;
+pub use ports::is_at_port;
