@@ -5,6 +5,7 @@ pub mod Staying
 mod Losses
 mod Queued
 mod Scans
+pub mod Singles
 pub mod Fits
 pub mod Lines
 pub mod Comings

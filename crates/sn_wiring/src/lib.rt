@@ -11,6 +11,8 @@ mod coming;
 mod going;
 mod keys;
 mod losing;
+#[cfg(test)]
+mod tests;
 mod wires;
 
 pub use coming::open_link;
