@@ -57,7 +57,7 @@ impl AppKind {
     /// An app of a class at a row of the roster.
     ///
     /// # Errors
-    /// Want of memory.
+    /// A stop, or want of memory.
     pub fn start<C: Ctx>(
         alloc: Global,
         ctx: &mut C,
