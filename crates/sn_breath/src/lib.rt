@@ -1,0 +1,6 @@
+//! One breath of a network.
+#![tactic(auto)]
+
+mod breath;
+
+pub use breath::breathe;
