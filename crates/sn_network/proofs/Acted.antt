@@ -1,5 +1,5 @@
 -- An action was taken: what it did to apps and links, and to the plain form, is what it does to the network.
-use Rattle.std.proofs.Common.{◌≡◌, ℕ, ◌+◌, ◌<◌, ◌≤◌, List, Option, Some, None, IsSome, Result, Ok, Err, OnErr, OnOk, refl, sym, ap, subst, ◌∙◌, arith}
+use Rattle.std.proofs.Common.{◌≡◌, ℕ, ◌≤◌, List, Option, Some, None, IsSome, Result, Ok, Err, OnErr, OnOk, refl, sym, ap, subst, ◌∙◌, arith}
 use mathlib.Core.Path.{fun_ext}
 use Rattle.sn_actions.specs.Consistency.{IsConsistent}
 use Rattle.sn_actions.specs.PlainForms.{PlainForm}
@@ -15,7 +15,7 @@ use Rattle.sn_app.specs.Desk.{Tray, roster_of}
 use Rattle.sn_app.specs.Reader.{Meaning, pure}
 use Rattle.sn_app.specs.Rows.{◌>>◌}
 use Rattle.sn_app.specs.Runs.{Runs, stands_at}
-use Rattle.sn_app.specs.World.{IsSound, Used, World, desk_of, nowhere, world}
+use Rattle.sn_app.specs.World.{IsSound, Used, nowhere, world}
 use Rattle.sn_app.specs.declared.halt.Halt.{Halt}
 use Rattle.sn_app.specs.declared.halt.Halt.TheVariants.{OutOfMemory}
 use Rattle.sn_app.proofs.Leaving.{runs_gave}

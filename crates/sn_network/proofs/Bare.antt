@@ -1,15 +1,13 @@
 -- The same apps with other ports: what is read off them is the same.
-use Rattle.std.proofs.Common.{◌≡◌, ◌≢◌, ℕ, zero, suc, ◌+◌, ◌<◌, ◌≤◌, List, [], ◌∷◌, length, map, set, slice_get, Option, Some, None, refl, sym, ap, subst, ◌∙◌, arith, inl, inr, bytes_eq, if◌then◌else◌, sum_by}
+use Rattle.std.proofs.Common.{◌≡◌, ℕ, zero, suc, ◌+◌, ◌<◌, ◌≤◌, List, [], ◌∷◌, length, map, set, slice_get, Option, Some, refl, sym, ap, subst, ◌∙◌, arith, inl, inr, bytes_eq, if◌then◌else◌, sum_by}
 use Rattle.std.proofs.lemmas.Bool.{cases_eq}
 use Rattle.std.proofs.lemmas.List.Sums.{sum_by-cons}
-use Rattle.sn_app.specs.Apps.{AppState}
 use Rattle.sn_app.specs.Desk.{Tray}
-use Rattle.sn_app.specs.World.{IsSound, Used, world}
+use Rattle.sn_app.specs.World.{Used}
 use Rattle.sn_actions.specs.PlainForms.{PlainForm}
 use Rattle.sn_kind.specs.declared.kind.AppKind.{AppKind}
 use Rattle.sn_kind.specs.Kinds.{kind_can_run, kind_class, kind_places, kind_state}
 use Rattle.sn_link.specs.Link.{Line}
-use Rattle.sn_names.specs.declared.class.Class.{Class}
 use Rattle.sn_network.specs.Places.{bare, class_in, found, is_named, kept_in, named_in, states_in}
 use Rattle.sn_network.specs.Standing.{CanRun, Stands}
 use Rattle.sn_network.specs.declared.place.Place.{Place}

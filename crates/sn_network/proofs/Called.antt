@@ -1,5 +1,5 @@
 -- One app of a network is called: what the network is then, and that it stands.
-use Rattle.std.proofs.Common.{◌≡◌, ◌≢◌, ℕ, ◌+◌, ◌-◌, ◌<◌, ◌≤◌, Bool, true, false, if◌then◌else◌, bytes_eq, List, set, slice_get, Option, Some, None, Result, Ok, Err, OnOk, refl, sym, ap, subst, ◌∙◌, arith, inl, inr}
+use Rattle.std.proofs.Common.{◌≡◌, ◌≢◌, ℕ, ◌-◌, ◌<◌, ◌≤◌, Bool, true, false, if◌then◌else◌, bytes_eq, List, set, slice_get, Option, Some, Result, Ok, Err, OnOk, refl, sym, ap, subst, ◌∙◌, arith, inl, inr}
 use mathlib.Core.Path.{fun_ext}
 use Rattle.std.proofs.lemmas.Bool.{cases_eq, true≢false}
 use Rattle.std.specs.Option.{option_map}
@@ -8,7 +8,7 @@ use Rattle.sn_app.specs.Answers.{Stays}
 use Rattle.sn_app.specs.Apps.{AppState}
 use Rattle.sn_app.specs.Desk.{Tray, roster_of}
 use Rattle.sn_app.specs.Ports.{KeepsRows, rows_of}
-use Rattle.sn_app.specs.Reader.{Meaning, pure, look}
+use Rattle.sn_app.specs.Reader.{Meaning, pure}
 use Rattle.sn_app.specs.Runs.{Moves, Runs, stands_at}
 use Rattle.sn_app.specs.World.{IsSound, Used, desk_of, world, ◌⊕◌}
 use Rattle.sn_app.specs.declared.halt.Halt.{Halt}
@@ -23,11 +23,11 @@ use Rattle.sn_wiring.specs.Wired.{Wired, ports_of}
 use Rattle.sn_network.specs.Calling.{call, calling, done_by}
 use Rattle.sn_network.specs.Nets.{Net, set_named, with_state}
 use Rattle.sn_network.specs.Places.{class_in, kept_in, named_in, net_of, states_in}
-use Rattle.sn_network.specs.Standing.{AreWired, CanRun, HasPlainApps, HasPlainLinks, Stands, name_in}
+use Rattle.sn_network.specs.Standing.{AreWired, CanRun, HasPlainLinks, Stands, name_in}
 use Rattle.sn_network.specs.declared.verb.Verb.{Verb}
 use Rattle.sn_network.specs.declared.place.Place.{Place}
 use Rattle.sn_network.proofs.Found.{found_as, found_at, found_set_other, named_set, same_bytes}
-use Rattle.sn_network.proofs.Sums.{get_set, get_set_other, get_within, one_within, sum_set, the_same, two_within}
+use Rattle.sn_network.proofs.Sums.{get_set, get_set_other, one_within, sum_set, the_same, two_within}
 
 -- what the other apps keep
 abbrev pub rest_of : List Place → Place → ℕ → ℕ

@@ -1,9 +1,6 @@
 -- A commit: the apps are the same, and the network is the one that its plain form tells.
-use Rattle.std.specs.FinMap as finmap
-use Rattle.std.specs.FinSet as finset
-use Rattle.std.proofs.Common.{◌≡◌, ℕ, List, Option, Some, Result, Ok, Err, map, refl, sym, ap, subst, ◌∙◌, true}
+use Rattle.std.proofs.Common.{◌≡◌, ℕ, List, Option, Ok, map, refl, sym, ap, subst, ◌∙◌}
 use mathlib.Core.Path.{fun_ext}
-use Rattle.sn_actions.specs.Consistency.{IsConsistent}
 use Rattle.sn_actions.specs.PlainForms.{PlainForm}
 use Rattle.sn_actions.specs.declared.action.Action.TheVariants.{Commit}
 use Rattle.sn_app.specs.Desk.{Tray, roster_of}
@@ -12,7 +9,6 @@ use Rattle.sn_app.specs.World.{Used, world}
 use Rattle.sn_app.proofs.Leaving.{runs_gave}
 use Rattle.sn_app.proofs.Running.{runs_as, runs_pure}
 use Rattle.sn_link.specs.Link.{Line}
-use Rattle.sn_names.specs.declared.link.LinkSpec.{LinkSpec}
 use Rattle.sn_wiring.proofs.Staying.{there_among}
 use Rattle.sn_wiring.specs.Wired.{AreThere}
 use Rattle.sn_network.specs.Acting.{acts, changes}

@@ -1,13 +1,13 @@
 -- An empty network.
 use Rattle.std.specs.FinMap as finmap
 use Rattle.std.specs.FinSet as finset
-use Rattle.std.proofs.Common.{◌≡◌, ℕ, ◌≤◌, List, [], ◌∷◌, length, map, Option, Some, None, refl, sym, ap, subst, ◌∙◌, arith, true, false}
+use Rattle.std.proofs.Common.{◌≡◌, ℕ, List, [], ◌∷◌, length, map, Option, Some, None, refl, sym, ap, subst, ◌∙◌, arith}
 use Rattle.std.proofs.lemmas.Bool.{true≢false}
 use Rattle.std.specs.Option.{option_map}
 use Rattle.sn_actions.specs.Consistency.{IsConsistent}
 use Rattle.sn_actions.specs.PlainForms.{PlainForm, empty_form}
 use Rattle.sn_app.specs.Desk.{Tray, roster_of}
-use Rattle.sn_app.specs.World.{IsSound, Used, in_slots, misfits, rows_in, world}
+use Rattle.sn_app.specs.World.{Used, in_slots, misfits, rows_in}
 use Rattle.sn_config.specs.declared.app_spec.AppSpec.{AppSpec}
 use Rattle.sn_link.specs.Link.{Line}
 use Rattle.sn_names.specs.LinkOrder.{link_cmp, name_cmp, port_cmp}
@@ -15,10 +15,10 @@ use Rattle.sn_names.specs.declared.link.LinkSpec.{LinkSpec}
 use Rattle.sn_order.specs.Order.{in_order, push_names}
 use Rattle.sn_wiring.proofs.Fits.{none_fits}
 use Rattle.sn_wiring.proofs.Lines.{no_lines}
-use Rattle.sn_network.specs.Nets.{Net, no_net}
+use Rattle.sn_network.specs.Nets.{no_net}
 use Rattle.sn_network.specs.Orders.{bringing, linked, pull_order, push_order}
-use Rattle.sn_network.specs.Places.{class_in, found, kept_in, named_in, net_of}
-use Rattle.sn_network.specs.Standing.{Breathes, Stands, class_of}
+use Rattle.sn_network.specs.Places.{found, kept_in, named_in, net_of}
+use Rattle.sn_network.specs.Standing.{Breathes, Stands}
 use Rattle.sn_network.specs.declared.place.Place.{Place}
 
 no_element : {A : Type 0} (xs : List A) → length xs ≡ 0 → xs ≡ []

@@ -1,6 +1,6 @@
 -- The app of a name is at the first place of that name.
-use Rattle.std.proofs.Common.{◌≡◌, ℕ, zero, suc, ◌+◌, ◌<◌, ◌≤◌, Bool, true, false, not, cond, if◌then◌else◌, bytes_eq, nat_lt, ltb-true, List, [], ◌∷◌, length, position, slice_get, Option, Some, None, IsSome, refl, sym, ap, subst, ◌∙◌, arith, one-add}
-use Rattle.std.proofs.lemmas.Bool.{false≢true, lt-ltb}
+use Rattle.std.proofs.Common.{◌≡◌, ℕ, suc, ◌+◌, ◌<◌, ◌≤◌, Bool, true, false, not, cond, if◌then◌else◌, bytes_eq, nat_lt, ltb-true, List, [], ◌∷◌, length, position, slice_get, Some, None, IsSome, refl, sym, ap, subst, ◌∙◌, arith, one-add}
+use Rattle.std.proofs.lemmas.Bool.{false≢true}
 use Rattle.std.specs.List.{position_or_len}
 use Rattle.std.specs.Option.{option_map}
 use Rattle.sn_kind.specs.Kinds.{kind_class}

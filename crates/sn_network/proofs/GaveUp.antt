@@ -1,7 +1,7 @@
 -- Memory was refused before anything was done.
-use Rattle.std.proofs.Common.{◌≡◌, ℕ, Result, Ok, Err, subst, sym}
+use Rattle.std.proofs.Common.{◌≡◌, ℕ, Result, Err, subst, sym}
 use Rattle.sn_app.specs.Reader.{Meaning}
-use Rattle.sn_app.specs.Runs.{Moves, Runs, stands_at}
+use Rattle.sn_app.specs.Runs.{Runs, stands_at}
 use Rattle.sn_app.specs.World.{World, desk_of}
 use Rattle.sn_app.specs.declared.halt.Halt.{Halt}
 use Rattle.sn_app.specs.declared.halt.Halt.TheVariants.{OutOfMemory}

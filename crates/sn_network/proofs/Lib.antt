@@ -14,3 +14,6 @@ mod Bare
 mod Committed
 mod Empty
 mod Orderly
+mod Cut
+mod Counted
+mod QueuedRows

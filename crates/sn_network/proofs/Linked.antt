@@ -1,6 +1,6 @@
 -- The links of a plain form that took an action, and those of the slab.
 use Rattle.std.specs.FinSet as finset
-use Rattle.std.proofs.Common.{◌≡◌, Bool, true, false, cond, not, ◌&&◌, ◌||◌, List, ℕ, Option, Result, Ok, Err, IsOk, refl, sym, ap, subst, ◌∙◌}
+use Rattle.std.proofs.Common.{◌≡◌, Bool, true, false, not, ◌&&◌, ◌||◌, List, ℕ, Option, Result, Ok, refl, sym, ap, subst, ◌∙◌}
 use Rattle.sn_actions.specs.PlainForms.{PlainForm}
 use Rattle.sn_actions.specs.Plains.{apply}
 use Rattle.sn_actions.specs.declared.action.Action.{Action}

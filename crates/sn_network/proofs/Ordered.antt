@@ -1,6 +1,6 @@
 -- The orders by places are those of the plain form.
 use Rattle.std.specs.FinMap as finmap
-use Rattle.std.proofs.Common.{◌≡◌, ℕ, zero, suc, ◌<◌, Bool, true, false, cond, List, [], ◌∷◌, length, map, filter, slice_index_or, Option, Some, None, IsSome, is_some, refl, sym, ap, subst, ◌∙◌, arith}
+use Rattle.std.proofs.Common.{◌≡◌, ℕ, zero, suc, Bool, true, false, cond, List, [], ◌∷◌, map, filter, slice_index_or, Option, Some, None, IsSome, refl, sym, ap, subst, ◌∙◌, arith}
 use Rattle.std.proofs.lemmas.Bool.{false≢true}
 use Rattle.std.proofs.lemmas.List.Elements.{All-contains}
 use Rattle.std.specs.BTreeMap.{is_at}
@@ -14,7 +14,6 @@ use Rattle.sn_actions.proofs.FiniteMaps.{get_entries}
 use Rattle.sn_actions.proofs.MapEntries.{entries_same}
 use Rattle.sn_config.specs.declared.app_spec.AppSpec.{AppSpec}
 use Rattle.sn_names.specs.LinkOrder.{name_cmp, name_cmp_total, port_cmp, port_cmp_total}
-use Rattle.sn_names.specs.declared.class.Class.{Class}
 use Rattle.sn_names.specs.declared.link.LinkSpec.{LinkSpec}
 use Rattle.sn_network.specs.Orders.{brings_in, bringing}
 use Rattle.sn_network.specs.Places.{class_in}
@@ -67,6 +66,13 @@ in_network places apps name classes some =
     has_class : (o : Option AppSpec) → IsSome o → IsSome (option_map (λ (spec : AppSpec). spec.class) o)
     has_class None some = absurd (false≢true some)
     has_class (Some spec) some = refl
+
+-- the apps of a plain form stand in the network
+pub apps_stand : (places : List Place) (apps : Apps)
+    → ((n : List ℕ) → class_in places n ≡ option_map (λ spec. spec.class) (finmap.get (finmap.from_entries {R = name_cmp} apps) n))
+    → All (λ name. IsSome (class_in places name)) (keys_of apps)
+apps_stand places apps classes k d lt =
+    in_network places apps (slice_index_or (keys_of apps) k d) classes (all_found apps k d lt)
 
 -- the names of an order stand in the network
 module _ (places : List Place) (apps : Apps) (names seen : List (List ℕ)) (same : seen ≡ names)

@@ -10,10 +10,8 @@ use Rattle.sn_app.specs.Runs.{Runs}
 use Rattle.sn_app.specs.World.{Used, world}
 use Rattle.sn_app.specs.declared.halt.Halt.{Halt}
 use Rattle.sn_link.specs.Link.{Line}
-use Rattle.sn_names.specs.declared.link.LinkSpec.{LinkSpec}
 use Rattle.sn_wiring.proofs.Fits.{fits_stays, keeps_same}
 use Rattle.sn_wiring.specs.Links.{FitsRoster}
-use Rattle.sn_network.specs.Orders.{pull_order, push_order}
 use Rattle.sn_network.specs.Standing.{AreWired, Breathes, IsOrder, Stands, name_in}
 use Rattle.sn_network.specs.declared.place.Place.{Place}
 use Rattle.sn_network.proofs.Linked.{roster_kept}

@@ -1,5 +1,5 @@
 -- An app comes to a network.
-use Rattle.std.proofs.Common.{◌≡◌, ◌≢◌, ℕ, zero, suc, ◌+◌, ◌<◌, ◌≤◌, Bool, true, false, cond, if◌then◌else◌, bytes_eq, List, [], ◌∷◌, ◌++◌, slice_get, Option, Some, None, Result, Ok, Err, OnOk, refl, sym, ap, subst, ◌∙◌, arith}
+use Rattle.std.proofs.Common.{◌≡◌, ℕ, zero, suc, ◌+◌, ◌<◌, ◌≤◌, Bool, true, false, cond, if◌then◌else◌, bytes_eq, List, [], ◌∷◌, ◌++◌, slice_get, Option, Some, None, Result, Ok, Err, refl, sym, ap, subst, ◌∙◌, arith}
 use mathlib.Core.Path.{fun_ext}
 use Rattle.std.proofs.lemmas.List.Sums.{sum_by-cons, sum_by_push}
 use Rattle.sn_app.specs.Answers.{Stays}
@@ -9,8 +9,8 @@ use Rattle.sn_app.specs.Apps.{AppState, starts}
 use Rattle.sn_app.specs.Calls.{row_of}
 use Rattle.sn_app.specs.Desk.{Tray, roster_of}
 use Rattle.sn_app.specs.Reader.{Meaning, pure}
-use Rattle.sn_app.specs.Runs.{Moves, Runs, stands_at}
-use Rattle.sn_app.specs.World.{IsSound, Used, desk_of, nowhere, world, ◌⊕◌}
+use Rattle.sn_app.specs.Runs.{Runs}
+use Rattle.sn_app.specs.World.{IsSound, Used, desk_of, nowhere, world}
 use Rattle.sn_app.specs.declared.halt.Halt.{Halt}
 use Rattle.sn_app.proofs.Leaving.{runs_gave}
 use Rattle.sn_app.proofs.Moving.{sound_as}
@@ -18,11 +18,11 @@ use Rattle.sn_app.proofs.Running.{runs_as, runs_beside, runs_bind, runs_fail, ru
 use Rattle.sn_kind.specs.Kinds.{kind_can_run, kind_class, kind_keeps, kind_places, kind_state, kind_stays}
 use Rattle.sn_link.specs.Link.{Line}
 use Rattle.sn_network.specs.Acting.{changes, starting}
-use Rattle.sn_network.specs.Nets.{States, set_named}
+use Rattle.sn_network.specs.Nets.{set_named}
 use Rattle.sn_network.specs.Places.{class_in, found, is_named, kept_in, named_in, states_in}
 use Rattle.sn_network.specs.Standing.{CanRun}
 use Rattle.sn_network.specs.declared.place.Place.{Place}
-use Rattle.sn_network.proofs.Found.{bytes_itself, found_as, same_bytes}
+use Rattle.sn_network.proofs.Found.{found_as, same_bytes}
 use Rattle.sn_network.proofs.Sums.{one_within, the_same}
 
 -- what is nowhere is read off none, and counts none

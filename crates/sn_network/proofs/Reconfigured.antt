@@ -14,7 +14,6 @@ use Rattle.sn_app.proofs.Moving.{sound_as}
 use Rattle.sn_app.proofs.Running.{runs_as, runs_beside, runs_bind, runs_fail, runs_pure}
 use Rattle.sn_kind.specs.Kinds.{kind_can_run, kind_class, kind_places, kind_state}
 use Rattle.sn_link.specs.Link.{Line}
-use Rattle.sn_names.specs.declared.arg.Arg.{Arg}
 use Rattle.sn_names.specs.declared.class.Class.{Class}
 use Rattle.sn_network.specs.Acting.{changes, reconfiguring}
 use Rattle.sn_network.specs.Nets.{set_named}

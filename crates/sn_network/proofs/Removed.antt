@@ -1,5 +1,5 @@
 -- An app goes from a network.
-use Rattle.std.proofs.Common.{◌≡◌, ◌≢◌, ℕ, zero, suc, ◌+◌, ◌-◌, ◌<◌, ◌≤◌, Bool, true, false, cond, if◌then◌else◌, bytes_eq, List, [], ◌∷◌, remove, set, slice_get, Option, Some, None, Result, Ok, Err, OnOk, refl, sym, ap, subst, ◌∙◌, arith}
+use Rattle.std.proofs.Common.{◌≡◌, ℕ, zero, suc, ◌+◌, ◌-◌, ◌<◌, ◌≤◌, Bool, true, false, cond, if◌then◌else◌, bytes_eq, List, [], ◌∷◌, remove, slice_get, Option, Some, None, Result, Ok, Err, OnOk, refl, sym, ap, subst, ◌∙◌, arith}
 use mathlib.Core.Path.{fun_ext}
 use Rattle.std.proofs.lemmas.List.Sums.{sum_by-cons}
 use Rattle.sn_actions.specs.declared.action.Action.TheVariants.{StopApp}
@@ -7,7 +7,7 @@ use Rattle.sn_app.specs.Answers.{Stays}
 use Rattle.sn_app.specs.Apps.{AppState, stops}
 use Rattle.sn_app.specs.Desk.{Tray}
 use Rattle.sn_app.specs.Reader.{pure, ◌>>=◌}
-use Rattle.sn_app.specs.Runs.{Moves, Runs, stands_at}
+use Rattle.sn_app.specs.Runs.{Runs, stands_at}
 use Rattle.sn_app.specs.Starts.{AreKept}
 use Rattle.sn_app.specs.World.{IsSound, Used, desk_of, in_slots, misfits, nowhere, rows_in, world, ◌⊕◌}
 use Rattle.sn_app.specs.declared.halt.Halt.{Halt}
@@ -22,7 +22,7 @@ use Rattle.sn_network.specs.Places.{found, is_named, kept_in, named_in, states_i
 use Rattle.sn_network.specs.Standing.{CanRun}
 use Rattle.sn_network.specs.declared.place.Place.{Place}
 use Rattle.sn_network.proofs.Called.{kept_parts, rest_of, states_after}
-use Rattle.sn_network.proofs.Found.{bytes_itself, found_at, found_set_other, same_bytes}
+use Rattle.sn_network.proofs.Found.{found_at, found_set_other}
 use Rattle.sn_network.proofs.Sums.{get_removed, one_within, sum_remove, the_same}
 
 -- a name that no app has is read off none

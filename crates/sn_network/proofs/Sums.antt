@@ -1,5 +1,5 @@
 -- Sums over a list, and one of its elements.
-use Rattle.std.proofs.Common.{◌≡◌, ◌≢◌, ℕ, zero, suc, ◌+◌, ◌<◌, ◌≤◌, List, [], ◌∷◌, length, remove, set, slice_get, slice_index_or, sum_by, Option, Some, None, refl, sym, ap, subst, ◌∙◌, arith}
+use Rattle.std.proofs.Common.{◌≡◌, ◌≢◌, ℕ, zero, suc, ◌+◌, ◌<◌, ◌≤◌, List, [], ◌∷◌, length, remove, set, slice_get, slice_index_or, sum_by, Some, refl, sym, ap, subst, arith}
 use Rattle.std.proofs.lemmas.List.Sums.{sum_by-cons}
 
 pub the_same : {X : Type 0} {x y : X} → Some x ≡ Some y → x ≡ y

@@ -1,7 +1,7 @@
 -- What a plain form that took an action was, and is.
 use Rattle.std.specs.FinMap as finmap
 use Rattle.std.specs.FinSet as finset
-use Rattle.std.proofs.Common.{◌≡◌, Bool, true, false, cond, is_some, bytes_eq, ◌||◌, List, ℕ, Option, Some, None, IsSome, Result, Ok, Err, refl, sym, ap, ◌∙◌}
+use Rattle.std.proofs.Common.{◌≡◌, Bool, true, false, cond, is_some, bytes_eq, ◌||◌, List, ℕ, Option, Some, None, IsSome, Ok, Err, refl, sym, ap, ◌∙◌}
 use mathlib.Core.Path.{fun_ext}
 use Rattle.std.proofs.lemmas.Map.Text.{is_eq-slice_cmp}
 use Rattle.std.specs.Cmp.Lexicographic.{bytes_decides}

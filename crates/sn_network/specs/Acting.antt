@@ -3,7 +3,7 @@ use Rattle.std.specs.Prelude.{ℕ, Bool, List, Option, Some, None, Ok, Err, Resu
 use Rattle.sn_actions.specs.PlainForms.{PlainForm}
 use Rattle.sn_actions.specs.Plains.{apply}
 use Rattle.sn_actions.specs.declared.action.Action.{Action}
-use Rattle.sn_actions.specs.declared.action.Action.TheVariants.{Commit, FreeLink, LinkInput, LinkOutput, NewLink, ReconfigApp, StartApp, StopApp, UnlinkInput, UnlinkOutput}
+use Rattle.sn_actions.specs.declared.action.Action.TheVariants.{FreeLink, NewLink, ReconfigApp, StartApp, StopApp}
 use Rattle.sn_actions.specs.declared.fault.ActionFault.{ActionFault}
 use Rattle.sn_config.specs.declared.app_spec.AppSpec.{AppSpec}
 use Rattle.sn_names.specs.declared.arg.Arg.{Arg}

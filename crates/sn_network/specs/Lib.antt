@@ -5,3 +5,4 @@ pub mod Orders
 pub mod Places
 pub mod Standing
 pub mod Networks
+pub mod Left

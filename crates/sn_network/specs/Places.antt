@@ -1,6 +1,5 @@
 -- The apps of a network in memory, each with its name and its ports.
-use Rattle.std.specs.Prelude.{ℕ, List, [], ◌∷◌, Option, Some, None, bytes_eq, if◌then◌else◌, slice_index_or, sum_by}
-use Rattle.sn_app.specs.Apps.{AppState}
+use Rattle.std.specs.Prelude.{ℕ, List, [], ◌∷◌, Option, Some, None, bytes_eq, if◌then◌else◌, sum_by}
 use Rattle.sn_app.specs.Desk.{Tray}
 use Rattle.sn_app.specs.World.{Used}
 use Rattle.sn_kind.specs.declared.kind.AppKind.{AppKind}

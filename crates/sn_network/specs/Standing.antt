@@ -21,7 +21,7 @@ use Rattle.sn_names.specs.LinkOrder.{link_cmp}
 use Rattle.sn_names.specs.declared.class.Class.{Class}
 use Rattle.sn_names.specs.declared.link.LinkSpec.{LinkSpec}
 use Rattle.sn_wiring.specs.Links.{FitsRoster, HasLines}
-use Rattle.sn_wiring.specs.Wired.{PortMap, Wired}
+use Rattle.sn_wiring.specs.Wired.{Wired}
 use Rattle.sn_network.specs.Orders.{pull_order, push_order}
 use Rattle.sn_network.specs.Acting.{acts}
 use Rattle.sn_network.specs.Places.{class_in, kept_in, named_in, net_of}

@@ -10,6 +10,7 @@
 //! - `calls`: a pull or a push of one of the apps
 //! - `place`: an app with its name and its ports
 //! - `finding`: the app of a name
+//! - `left`: the records and packets that are left
 //! - `verb`: what is done with an app in a breath
 #![tactic(auto)]
 
@@ -17,6 +18,7 @@ mod acting;
 mod calls;
 mod committing;
 mod finding;
+mod left;
 mod linking;
 mod network;
 mod orders;

@@ -71,7 +71,7 @@ fn app_names(alloc: Global, apps: &BTreeMap<Name, AppSpec>) -> Result<Vec<Name>,
 }
 
 /// Recalls that the names of apps and the output ports ascend.
-fn recall_orders(plain: &Plain)
+pub(crate) fn recall_orders(plain: &Plain)
     ensures apps { IsStrictlySortedBy name_cmp (keys_of plain.now.apps.entries) }
     ensures outs { IsStrictlySortedBy port_cmp (keys_of plain.now.outs.entries) }
 {

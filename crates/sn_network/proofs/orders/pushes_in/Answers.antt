@@ -1,5 +1,5 @@
 -- answers of src/orders.rt, pushes_in
-use Rattle.std.proofs.Common.{List, ap, filter, subst, sym, ◌∙◌, ℕ}
+use Rattle.std.proofs.Common.{List, ap, filter, subst, ◌∙◌, ℕ}
 use Rattle.sn_actions.specs.PlainOf.{plain_of}
 use Rattle.sn_names.specs.declared.link.LinkSpec.{LinkSpec}
 use Rattle.sn_order.specs.Order.{in_order, push_names}

@@ -1,5 +1,5 @@
 -- answers of src/ports.rt, wire_all
-use Rattle.std.proofs.Common.{arith, sym, ◌∙◌, ℕ, ◌<◌, length}
+use Rattle.std.proofs.Common.{arith, sym, ◌∙◌, ◌<◌, length}
 use Rattle.sn_actions.specs.PlainOf.{plain_of}
 use Rattle.sn_app.specs.Desk.{roster_of}
 use Rattle.sn_wiring.specs.Wired.{Wired}

@@ -1,4 +1,4 @@
-use Rattle.std.proofs.Common.{◌≡◌, ◌<◌, ℕ, Some, length, map, slice_get}
+use Rattle.std.proofs.Common.{◌≡◌, ◌<◌, ℕ, Some, map, slice_get}
 use Rattle.sn_actions.specs.PlainOf.{plain_of}
 use Rattle.sn_app.specs.Desk.{roster_of}
 use Rattle.sn_wiring.specs.Wired.{Wired}

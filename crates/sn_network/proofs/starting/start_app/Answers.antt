@@ -1,5 +1,5 @@
 -- answers of src/starting.rt, start_app
-use Rattle.std.proofs.Common.{ap, Err, Some, rules, ◌∙◌, ◌≡◌, ℕ, List, [], ◌∷◌, ◌++◌}
+use Rattle.std.proofs.Common.{ap, Err, Some, rules, ◌∙◌, ◌≡◌, []}
 use Rattle.sn_app.specs.declared.halt.Halt.TheVariants.{OutOfMemory}
 use Rattle.sn_kind.specs.Kinds.{kind_class}
 use Rattle.sn_network.specs.Nets.{set_named}
