@@ -1,11 +1,13 @@
 -- An action was taken: what it did to apps and links, and to the plain form, is what it does to the network.
-use Rattle.std.proofs.Common.{◌≡◌, ℕ, ◌≤◌, List, Option, Some, None, IsSome, Result, Ok, Err, OnErr, OnOk, refl, sym, ap, subst, ◌∙◌, arith}
+use Rattle.std.proofs.Common.{◌≡◌, ℕ, ◌≤◌, List, Option, Some, None, IsSome, Result, Ok, Err, OnErr, OnOk, refl, sym, ap, subst}
+use Rattle.std.proofs.Common.{◌∙◌, arith}
 use mathlib.Core.Path.{fun_ext}
 use Rattle.sn_actions.specs.Consistency.{IsConsistent}
 use Rattle.sn_actions.specs.PlainForms.{PlainForm}
 use Rattle.sn_actions.specs.Plains.{apply}
 use Rattle.sn_actions.specs.declared.action.Action.{Action}
-use Rattle.sn_actions.specs.declared.action.Action.TheVariants.{Commit, FreeLink, LinkInput, LinkOutput, NewLink, ReconfigApp, StartApp, StopApp, UnlinkInput, UnlinkOutput}
+use Rattle.sn_actions.specs.declared.action.Action.TheVariants.{Commit, FreeLink, LinkInput, LinkOutput, NewLink, ReconfigApp}
+use Rattle.sn_actions.specs.declared.action.Action.TheVariants.{StartApp, StopApp, UnlinkInput, UnlinkOutput}
 use Rattle.sn_app.specs.Answers.{Stays}
 use Rattle.sn_app.specs.Calls.{HasLink, HasName}
 use Rattle.sn_app.specs.Starts.{AreKept, ArgIsThere}
@@ -53,7 +55,8 @@ module _ (action : Action) (plain after : PlainForm) (places new : List Place) (
       runs_fail (λ states. pure (record { plain = plain_after action plain; states = states })) (kept_in new) run
 
 -- what was done to a link is beside all that the apps keep
-module _ (places : List Place) (t s : Tray) (u v : Used) (slots later : List (Option Line)) (h : IsSound (world t u slots) (kept_in places)) where
+module _ (places : List Place) (t s : Tray) (u v : Used) (slots later : List (Option Line))
+    (h : IsSound (world t u slots) (kept_in places)) where
   beside_apps : {m : Meaning Unit} (r : Result Unit Halt) → Runs m (world t u slots) (world s v later) nowhere nowhere r
       → Runs (m >> pure (states_in places u t)) (world t u slots) (world s v later) (kept_in places) (kept_in places)
       (stands_at (states_in places v s) r)
@@ -67,13 +70,16 @@ module _ (places : List Place) (t s : Tray) (u v : Used) (slots later : List (Op
       runs_fail (λ _. pure (states_in places u t)) (kept_in places)
       (runs_as (kept_in places) (kept_in places) (λ q. omega arith) (λ q. omega arith) (runs_beside (kept_in places) run))
 
-  pub freed_beside : (link : LinkSpec) (r : Result Unit Halt) → Runs (freeing link) (world t u slots) (world s v later) nowhere nowhere r
-      → Runs (changes (FreeLink link) (states_in places u t)) (world t u slots) (world s v later) (kept_in places) (kept_in places)
+  pub freed_beside : (link : LinkSpec) (r : Result Unit Halt)
+      → Runs (freeing link) (world t u slots) (world s v later) nowhere nowhere r
+      → Runs (changes (FreeLink link) (states_in places u t)) (world t u slots) (world s v later) (kept_in places)
+      (kept_in places)
       (stands_at (states_in places v s) r)
   unfolding changes
   freed_beside link r run = beside_apps r run
 
-  pub opened_beside : (link : LinkSpec) (r : Result Unit Halt) → Runs (opening link) (world t u slots) (world s v later) nowhere nowhere r
+  pub opened_beside : (link : LinkSpec) (r : Result Unit Halt)
+      → Runs (opening link) (world t u slots) (world s v later) nowhere nowhere r
       → Runs (changes (NewLink link) (states_in places u t)) (world t u slots) (world s v later) (kept_in places) (kept_in places)
       (stands_at (states_in places v s) r)
   unfolding changes
@@ -94,16 +100,19 @@ changed_none action places t u slots none =
 can_run_yet : (places : List Place) (t s : Tray) → Stays t s → CanRun places t → CanRun places s
 can_run_yet places t s stays ready j x there = kind_stays x.kind t s stays (ready j x there)
 
-same_classes : (places : List Place) (plain after : PlainForm) (t : Tray) → HasPlainApps places plain t → class_of after ≡ class_of plain
+same_classes : (places : List Place) (plain after : PlainForm) (t : Tray) → HasPlainApps places plain t
+    → class_of after ≡ class_of plain
     → (name : List ℕ) → class_in places name ≡ class_of after name
 same_classes places plain after t has same name = has.classes name ∙ sym (ap (λ f. f name) same)
 
 -- links of the same roster
-fits_of_roster : {slots : List (Option Line)} {roster other : List LinkSpec} → other ≡ roster → FitsRoster roster slots → FitsRoster other slots
+fits_of_roster : {slots : List (Option Line)} {roster other : List LinkSpec} → other ≡ roster → FitsRoster roster slots
+    → FitsRoster other slots
 fits_of_roster {slots} same h = subst (λ r. FitsRoster r slots) (sym same) h
 
 -- apps changed, and no link did
-module _ (action : Action) (plain after : PlainForm) (places new : List Place) (slots : List (Option Line)) (t s : Tray) (u v : Used)
+module _ (action : Action) (plain after : PlainForm) (places new : List Place) (slots : List (Option Line)) (t s : Tray)
+    (u v : Used)
     (stands : Stands places slots plain t u) where
   pub took_apps : (classes : List ℕ → Option Class) (r : Result Unit Halt)
       → Runs (changes action (states_in places u t)) (world t u slots) (world s v slots) (kept_in places) (kept_in new)
@@ -135,7 +144,8 @@ module _ (action : Action) (plain after : PlainForm) (places new : List Place) (
       by (Err halt) run consistent once ready in_new changed = tt
 
 -- links changed, and no app did
-module _ (action : Action) (plain after : PlainForm) (places : List Place) (slots later : List (Option Line)) (t s : Tray) (u v : Used)
+module _ (action : Action) (plain after : PlainForm) (places : List Place) (slots later : List (Option Line)) (t s : Tray)
+    (u v : Used)
     (stands : Stands places slots plain t u) where
   pub took_links : (r : Result Unit Halt)
       → Runs (changes action (states_in places u t)) (world t u slots) (world s v later) (kept_in places) (kept_in places)
@@ -183,7 +193,8 @@ wiring_changes (StartApp name spec) is states = absurd is
 wiring_changes (ReconfigApp name spec) is states = absurd is
 wiring_changes Commit is states = absurd is
 
-pub took_wiring : (action : Action) (plain after : PlainForm) (places : List Place) (slots : List (Option Line)) (t : Tray) (u : Used)
+pub took_wiring : (action : Action) (plain after : PlainForm) (places : List Place) (slots : List (Option Line)) (t : Tray)
+    (u : Used)
     → Stands places slots plain t u → IsWiring action → apply action plain ≡ Ok after → (IsConsistent plain → IsConsistent after)
     → Took action plain after places places slots slots t t u u (Ok tt)
 took_wiring action plain after places slots t u stands is taken consistent =
@@ -192,7 +203,8 @@ took_wiring action plain after places slots t u stands is taken consistent =
     (fun_ext stands.apps.classes) (taken_wiring action is plain after taken)
 
 -- memory was refused before anything was done
-pub took_none : (action : Action) (plain after : PlainForm) (places : List Place) (slots : List (Option Line)) (t : Tray) (u : Used)
+pub took_none : (action : Action) (plain after : PlainForm) (places : List Place) (slots : List (Option Line)) (t : Tray)
+    (u : Used)
     → Stands places slots plain t u → Took action plain after places places slots slots t t u u (Err OutOfMemory)
 took_none action plain after places slots t u stands = record {
   runs = gave_up (acts action (net_of plain places u t)) (world t u slots) (kept_in places) (kept_in places);
@@ -202,17 +214,20 @@ took_none action plain after places slots t u stands = record {
 }
 
 -- as an answer has it
-pub took_wiring_at : (action : Action) (plain after : PlainForm) (places : List Place) (slots : List (Option Line)) (t : Tray) (u : Used)
+pub took_wiring_at : (action : Action) (plain after : PlainForm) (places : List Place) (slots : List (Option Line)) (t : Tray)
+    (u : Used)
     (r : Result Unit Halt) → Stands places slots plain t u → IsWiring action → OnOk r (apply action plain ≡ Ok after)
     → OnOk r (IsConsistent plain → IsConsistent after) → OnErr r (r ≡ Err OutOfMemory)
     → Took action plain after places places slots slots t t u u r
 took_wiring_at action plain after places slots t u (Ok done) stands is taken consistent memory =
     took_wiring action plain after places slots t u stands is taken consistent
 took_wiring_at action plain after places slots t u (Err halt) stands is taken consistent memory =
-    subst (λ r. Took action plain after places places slots slots t t u u r) (sym memory) (took_none action plain after places slots t u stands)
+    subst (λ r. Took action plain after places places slots slots t t u u r) (sym memory)
+    (took_none action plain after places slots t u stands)
 
 -- a link went
-pub took_free : (action : Action) (plain after : PlainForm) (places : List Place) (slots later : List (Option Line)) (t s : Tray) (u v : Used)
+pub took_free : (action : Action) (plain after : PlainForm) (places : List Place) (slots later : List (Option Line)) (t s : Tray)
+    (u v : Used)
     (link : LinkSpec) (r : Result Unit Halt) → Stands places slots plain t u → action ≡ FreeLink link
     → Runs (freeing link) (world t u slots) (world s v later) nowhere nowhere r
     → OnOk r (apply action plain ≡ Ok after) → OnOk r (IsConsistent plain → IsConsistent after)
@@ -229,7 +244,8 @@ took_free action plain after places slots later t s u v link r stands is run tak
     by (Err halt) taken = tt
 
 -- a link came
-pub took_new : (action : Action) (plain after : PlainForm) (places : List Place) (slots later : List (Option Line)) (t s : Tray) (u v : Used)
+pub took_new : (action : Action) (plain after : PlainForm) (places : List Place) (slots later : List (Option Line)) (t s : Tray)
+    (u v : Used)
     (link : LinkSpec) (r : Result Unit Halt) → Stands places slots plain t u → action ≡ NewLink link
     → Runs (opening link) (world t u slots) (world s v later) nowhere nowhere r
     → OnOk r (apply action plain ≡ Ok after) → OnOk r (IsConsistent plain → IsConsistent after)
@@ -250,17 +266,21 @@ on_ok (Ok done) x = x
 on_ok (Err halt) x = tt
 
 -- an app started, stopped, or took a new argument
-module _ (action : Action) (plain after : PlainForm) (places new : List Place) (slots : List (Option Line)) (t s : Tray) (u v : Used)
-    (stands : Stands places slots plain t u) (taken : apply action plain ≡ Ok after) (consistent : IsConsistent plain → IsConsistent after)
+module _ (action : Action) (plain after : PlainForm) (places new : List Place) (slots : List (Option Line)) (t s : Tray)
+    (u v : Used)
+    (stands : Stands places slots plain t u) (taken : apply action plain ≡ Ok after)
+    (consistent : IsConsistent plain → IsConsistent after)
     (r : Result Unit Halt) where
   here : {A : Type 0} → A → OnOk r A
   here x = on_ok r x
 
   pub took_start : (name : List ℕ) (spec : AppSpec) → action ≡ StartApp name spec
-      → Runs (changes (StartApp name spec) (states_in places u t)) (world t u slots) (world s v slots) (kept_in places) (kept_in new)
+      → Runs (changes (StartApp name spec) (states_in places u t)) (world t u slots) (world s v slots) (kept_in places)
+      (kept_in new)
       (stands_at (states_in new v s) r)
       → OnOk r (((n : List ℕ) → named_in n places ≤ 1) → (n : List ℕ) → named_in n new ≤ 1) → OnOk r (CanRun new s)
-      → OnOk r (class_in new ≡ set_named name (Some spec.class) (class_in places)) → Took action plain after places new slots slots t s u v r
+      → OnOk r (class_in new ≡ set_named name (Some spec.class) (class_in places))
+      → Took action plain after places new slots slots t s u v r
   took_start name spec is run once ready classes =
       took_apps action plain after places new slots t s u v stands (set_named name (Some spec.class) (class_of plain)) r
       (subst (λ a. Runs (changes a (states_in places u t)) (world t u slots) (world s v slots) (kept_in places) (kept_in new)
@@ -292,7 +312,8 @@ module _ (action : Action) (plain after : PlainForm) (places new : List Place) (
       (here (taken_stop name plain after (ap (λ a. apply a plain) (sym is) ∙ taken)).changes)
 
   pub took_reconfig : (name : List ℕ) (spec : AppSpec) → action ≡ ReconfigApp name spec
-      → Runs (changes (ReconfigApp name spec) (states_in places u t)) (world t u slots) (world s v slots) (kept_in places) (kept_in new)
+      → Runs (changes (ReconfigApp name spec) (states_in places u t)) (world t u slots) (world s v slots) (kept_in places)
+      (kept_in new)
       (stands_at (states_in new v s) r)
       → ((n : List ℕ) → named_in n new ≤ 1) → OnOk r (CanRun new s)
       → class_in new ≡ class_in places → Took action plain after places new slots slots t s u v r
@@ -322,7 +343,8 @@ reconfig_class action plain after places t name spec has taken is =
     has.classes name ∙ (taken_reconfig name spec plain after (ap (λ a. apply a plain) (sym is) ∙ taken)).there
 
 -- what the apps keep is kept
-pub all_kept : (places : List Place) (t : Tray) (u : Used) (slots : List (Option Line)) → IsSound (world t u slots) (kept_in places)
+pub all_kept : (places : List Place) (t : Tray) (u : Used) (slots : List (Option Line))
+    → IsSound (world t u slots) (kept_in places)
     → AreKept u (kept_in places)
 all_kept places t u slots h = record {
   once = λ place. let o = h.once place in omega (arith, o);
@@ -334,9 +356,11 @@ pub found_start : (action : Action) (t : Tray) (name : List ℕ) (spec : AppSpec
     → HasName (roster_of t).apps name × (IsArgOf spec.class spec.arg × ArgIsThere spec.class spec.arg t)
 found_start action t name spec is found = subst (λ a. Finds a t) is found
 
-pub found_reconfig : (action : Action) (t : Tray) (name : List ℕ) (spec : AppSpec) → action ≡ ReconfigApp name spec → Finds action t
+pub found_reconfig : (action : Action) (t : Tray) (name : List ℕ) (spec : AppSpec) → action ≡ ReconfigApp name spec
+    → Finds action t
     → IsArgOf spec.class spec.arg × ArgIsThere spec.class spec.arg t
 found_reconfig action t name spec is found = subst (λ a. Finds a t) is found
 
-pub found_new : (action : Action) (t : Tray) (link : LinkSpec) → action ≡ NewLink link → Finds action t → HasLink (roster_of t).links link
+pub found_new : (action : Action) (t : Tray) (link : LinkSpec) → action ≡ NewLink link → Finds action t
+    → HasLink (roster_of t).links link
 found_new action t link is found = subst (λ a. Finds a t) is found

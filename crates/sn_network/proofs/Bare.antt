@@ -1,5 +1,6 @@
 -- The same apps with other ports: what is read off them is the same.
-use Rattle.std.proofs.Common.{◌≡◌, ℕ, zero, suc, ◌+◌, ◌<◌, ◌≤◌, List, [], ◌∷◌, length, map, set, slice_get, Option, Some, refl, sym, ap, subst, ◌∙◌, arith, inl, inr, bytes_eq, if◌then◌else◌, sum_by}
+use Rattle.std.proofs.Common.{◌≡◌, ℕ, zero, suc, ◌+◌, ◌<◌, ◌≤◌, List, [], ◌∷◌, length, map, set, slice_get, Option, Some, refl}
+use Rattle.std.proofs.Common.{sym, ap, subst, ◌∙◌, arith, inl, inr, bytes_eq, if◌then◌else◌, sum_by}
 use Rattle.std.proofs.lemmas.Bool.{cases_eq}
 use Rattle.std.proofs.lemmas.List.Sums.{sum_by-cons}
 use Rattle.sn_app.specs.Desk.{Tray}
@@ -23,7 +24,8 @@ still_within (x ∷ xs) (y ∷ ys) (suc i) e lt =
     let rest : map bare xs ≡ map bare ys = cc in let h = still_within xs ys i rest (omega (arith, lt)) in omega (arith, h)
 
 -- one app with other ports
-pub bare_set : (xs : List Place) (i : ℕ) (x y : Place) → slice_get xs i ≡ Some x → bare y ≡ bare x → map bare (set xs i y) ≡ map bare xs
+pub bare_set : (xs : List Place) (i : ℕ) (x y : Place) → slice_get xs i ≡ Some x → bare y ≡ bare x
+    → map bare (set xs i y) ≡ map bare xs
 bare_set [] i x y here same = absurd cc
 bare_set (z ∷ zs) zero x y here same = ap (λ (b : List ℕ × AppKind). b ∷ map bare zs) (same ∙ ap bare (sym (the_same here)))
 bare_set (z ∷ zs) (suc i) x y here same = ap (λ bs. bare z ∷ bs) (bare_set zs i x y here same)
@@ -42,7 +44,8 @@ each_next P xs at x y here holds before i place lt there = elim (cases_eq i at) 
 -- SUMS AND READINGS
 
 module _ (f : List ℕ × AppKind → ℕ) where
-  sums_bare : (xs ys : List Place) → map bare ys ≡ map bare xs → sum_by (λ (p : Place). f (bare p)) ys ≡ sum_by (λ (p : Place). f (bare p)) xs
+  sums_bare : (xs ys : List Place) → map bare ys ≡ map bare xs
+      → sum_by (λ (p : Place). f (bare p)) ys ≡ sum_by (λ (p : Place). f (bare p)) xs
   sums_bare [] [] e = refl
   sums_bare [] (y ∷ ys) e = absurd cc
   sums_bare (x ∷ xs) [] e = absurd cc
@@ -83,7 +86,8 @@ module _ (xs ys : List Place) (same : map bare ys ≡ map bare xs) where
   pub classes_bare : (name : List ℕ) → class_in ys name ≡ class_in xs name
   classes_bare name = found_bare kind_class xs ys same name
 
-  pub stands_bare : (slots : List (Option Line)) (plain : PlainForm) (t : Tray) (u : Used) → Stands xs slots plain t u → Stands ys slots plain t u
+  pub stands_bare : (slots : List (Option Line)) (plain : PlainForm) (t : Tray) (u : Used) → Stands xs slots plain t u
+      → Stands ys slots plain t u
   stands_bare slots plain t u h = record {
     apps = record {
       once = λ name. subst (λ n. n ≤ 1) (sym (named_bare name)) (h.apps.once name);
@@ -101,7 +105,8 @@ module _ (xs ys : List Place) (same : map bare ys ≡ map bare xs) where
       ready_bare t (a ∷ os) [] e ready i place there = absurd cc
       ready_bare t (a ∷ os) (b ∷ ns) e ready zero place there =
           let first : bare b ≡ bare a = cc in
-          subst (λ kind. kind_can_run kind t) (ap (λ (x : List ℕ × AppKind). x.1) (sym first) ∙ ap (λ (p : Place). p.kind) (the_same there))
+          subst (λ kind. kind_can_run kind t)
+          (ap (λ (x : List ℕ × AppKind). x.1) (sym first) ∙ ap (λ (p : Place). p.kind) (the_same there))
           (ready 0 a refl)
       ready_bare t (a ∷ os) (b ∷ ns) e ready (suc i) place there =
           let rest : map bare ns ≡ map bare os = cc in ready_bare t os ns rest (λ j. ready (suc j)) i place there

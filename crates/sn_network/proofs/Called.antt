@@ -1,5 +1,6 @@
 -- One app of a network is called: what the network is then, and that it stands.
-use Rattle.std.proofs.Common.{◌≡◌, ◌≢◌, ℕ, ◌-◌, ◌<◌, ◌≤◌, Bool, true, false, if◌then◌else◌, bytes_eq, List, set, slice_get, Option, Some, Result, Ok, Err, OnOk, refl, sym, ap, subst, ◌∙◌, arith, inl, inr}
+use Rattle.std.proofs.Common.{◌≡◌, ◌≢◌, ℕ, ◌-◌, ◌<◌, ◌≤◌, Bool, true, false, if◌then◌else◌, bytes_eq, List, set, slice_get}
+use Rattle.std.proofs.Common.{Option, Some, Result, Ok, Err, OnOk, refl, sym, ap, subst, ◌∙◌, arith, inl, inr}
 use mathlib.Core.Path.{fun_ext}
 use Rattle.std.proofs.lemmas.Bool.{cases_eq, true≢false}
 use Rattle.std.specs.Option.{option_map}
@@ -55,7 +56,8 @@ module _ (places : List Place) (i : ℕ) (p q : Place) (here : slice_get places 
       let r : rest_of places p place ≡ kept_in places place - kind_places p.kind place = refl in
       omega (arith, h, s, r)
 
-  others_kept : (j : ℕ) (x : Place) (place : ℕ) → j ≢ i → slice_get places j ≡ Some x → 0 < kind_places x.kind place → 0 < rest_of places p place
+  others_kept : (j : ℕ) (x : Place) (place : ℕ) → j ≢ i → slice_get places j ≡ Some x → 0 < kind_places x.kind place
+      → 0 < rest_of places p place
   unfolding kept_in
   others_kept j x place apart there k =
       let h = two_within (λ (app : Place). kind_places app.kind place) places i j p x (λ e. apart (sym e)) here there in
@@ -100,7 +102,8 @@ module _ (places : List Place) (i : ℕ) (p q : Place) (here : slice_get places 
     | inr apart ↦ kind_stays y.kind t s stays (before j y (sym (get_set_other places i j q apart) ∙ there))
   ]
 
-  pub class_after : kind_class q.kind ≡ kind_class p.kind → (name : List ℕ) → class_in (set places i q) name ≡ class_in places name
+  pub class_after : kind_class q.kind ≡ kind_class p.kind → (name : List ℕ)
+      → class_in (set places i q) name ≡ class_in places name
   class_after class name = by (bytes_eq name p.name) refl
     where
       by : (b : Bool) → bytes_eq name p.name ≡ b → class_in (set places i q) name ≡ class_in places name
@@ -168,7 +171,8 @@ module _ (places : List Place) (i : ℕ) (p q : Place) (here : slice_get places 
         by : (r : Result Unit Halt)
             → Runs (done_by verb (kind_state p.kind u t) ins_now outs_now) (world t u slots) (world s v later)
             (kept_in places) (kept_in (set places i q)) (stands_at (kind_state q.kind v s) r)
-            → ((x : AppState) → stands_at (kind_state q.kind v s) r ≡ Ok x → (place : ℕ) → 0 < rest_of places p place → v place ≡ u place)
+            → ((x : AppState) → stands_at (kind_state q.kind v s) r ≡ Ok x → (place : ℕ) → 0 < rest_of places p place
+            → v place ≡ u place)
             → Stays t s
             → Runs (calling verb (Some (kind_state p.kind u t)) p.name ins_now outs_now net) (world t u slots) (world s v later)
             (kept_in places) (kept_in (set places i q)) (stands_at (net_of plain (set places i q) v s) r)
@@ -198,7 +202,8 @@ module _ (places : List Place) (i : ℕ) (p q : Place) (here : slice_get places 
 
     -- and the network stands, wired as it was
     module _ {R : Type 0} {m : Meaning R} {x : R} (plain : PlainForm)
-        (run : Runs m (world t u slots) (world s v later) (kind_places p.kind) (kind_places q.kind) (Ok x)) (rows : KeepsRows slots later)
+        (run : Runs m (world t u slots) (world s v later) (kind_places p.kind) (kind_places q.kind) (Ok x))
+        (rows : KeepsRows slots later)
         (ready : kind_can_run q.kind s) (class : kind_class q.kind ≡ kind_class p.kind) where
       stays : Stays t s
       unfolding desk_of
@@ -220,7 +225,8 @@ module _ (places : List Place) (i : ℕ) (p q : Place) (here : slice_get places 
           listed = stands.links.listed;
         });
         consistent = stands.consistent;
-        sound = sound_as kept_after (sound_moved (moves_beside (rest_of places p) (run.moves x refl)) (sound_as (λ place. sym (kept_before place)) h));
+        sound = sound_as kept_after
+            (sound_moved (moves_beside (rest_of places p) (run.moves x refl)) (sound_as (λ place. sym (kept_before place)) h));
       }
 
       pub wired_called : q.ins ≡ p.ins → q.outs ≡ p.outs → AreWired places slots plain (roster_of t).links
@@ -230,7 +236,8 @@ module _ (places : List Place) (i : ℕ) (p q : Place) (here : slice_get places 
             | inl e ↦
                 let is : q ≡ y = the_same (sym (get_set places i p q here) ∙ (ap (slice_get (set places i q)) (sym e) ∙ there)) in
                 subst (λ (z : Place).
-                Wired later (roster_of t).links plain.ins z.name z.ins.items × Wired later (roster_of t).links plain.outs z.name z.outs.items)
+                Wired later (roster_of t).links plain.ins z.name z.ins.items
+                × Wired later (roster_of t).links plain.outs z.name z.outs.items)
                 is (own ins outs (wired i p here))
             | inr apart ↦ both (wired j y (sym (get_set_other places i j q apart) ∙ there))
           ])
@@ -241,8 +248,10 @@ module _ (places : List Place) (i : ℕ) (p q : Place) (here : slice_get places 
           both w = (wired_stays _ _ _ _ _ _ w.0 rows, wired_stays _ _ _ _ _ _ w.1 rows)
 
           own : q.ins ≡ p.ins → q.outs ≡ p.outs
-              → Wired slots (roster_of t).links plain.ins p.name p.ins.items × Wired slots (roster_of t).links plain.outs p.name p.outs.items
-              → Wired later (roster_of t).links plain.ins q.name q.ins.items × Wired later (roster_of t).links plain.outs q.name q.outs.items
+              → Wired slots (roster_of t).links plain.ins p.name p.ins.items
+              × Wired slots (roster_of t).links plain.outs p.name p.outs.items
+              → Wired later (roster_of t).links plain.ins q.name q.ins.items
+              × Wired later (roster_of t).links plain.outs q.name q.outs.items
           own a b w =
               let n = both w in (
                 subst (λ name. Wired later (roster_of t).links plain.ins name q.ins.items) (sym same)
@@ -253,14 +262,16 @@ module _ (places : List Place) (i : ℕ) (p q : Place) (here : slice_get places 
 
     -- as the call's answer has it
     pub stands_after : {m : Meaning AppState} (plain : PlainForm) (r : Result Unit Halt)
-        → Runs m (world t u slots) (world s v later) (kind_places p.kind) (kind_places q.kind) (stands_at (kind_state q.kind v s) r)
+        → Runs m (world t u slots) (world s v later) (kind_places p.kind) (kind_places q.kind)
+        (stands_at (kind_state q.kind v s) r)
         → KeepsRows slots later → OnOk r (kind_can_run q.kind s) → kind_class q.kind ≡ kind_class p.kind
         → Stands places slots plain t u → OnOk r (Stands (set places i q) later plain s v)
     stands_after plain (Ok done) run rows ready class stands = stands_called plain run rows ready class stands
     stands_after plain (Err halt) run rows ready class stands = tt
 
     pub wired_after : {m : Meaning AppState} (plain : PlainForm) (r : Result Unit Halt)
-        → Runs m (world t u slots) (world s v later) (kind_places p.kind) (kind_places q.kind) (stands_at (kind_state q.kind v s) r)
+        → Runs m (world t u slots) (world s v later) (kind_places p.kind) (kind_places q.kind)
+        (stands_at (kind_state q.kind v s) r)
         → KeepsRows slots later → OnOk r (kind_can_run q.kind s) → kind_class q.kind ≡ kind_class p.kind
         → q.ins ≡ p.ins → q.outs ≡ p.outs → AreWired places slots plain (roster_of t).links
         → OnOk r (AreWired (set places i q) later plain (roster_of s).links)
@@ -274,9 +285,11 @@ unfolding kept_in
 sound_own places i p t u slots here h =
     record {
       once = λ place.
-          let w = one_within (λ (app : Place). kind_places app.kind place) places i p here in let o = h.once place in omega (arith, w, o);
+          let w = one_within (λ (app : Place). kind_places app.kind place) places i p here in let o = h.once place in
+          omega (arith, w, o);
       in_use = λ place k.
-          let w = one_within (λ (app : Place). kind_places app.kind place) places i p here in h.in_use place (omega (arith, w, k));
+          let w = one_within (λ (app : Place). kind_places app.kind place) places i p here in
+          h.in_use place (omega (arith, w, k));
       lengths = h.lengths;
       rows = h.rows;
     }

@@ -19,7 +19,8 @@ use Rattle.sn_network.specs.declared.place.Place.{Place}
 use Rattle.sn_network.proofs.Acted.{acted}
 use Rattle.sn_network.proofs.Bare.{classes_bare, kept_bare, stands_bare, states_bare}
 
-module _ (old new : List Place) (same : map bare new ≡ map bare old) (plain : PlainForm) (slots : List (Option Line)) (t : Tray) (u : Used) where
+module _ (old new : List Place) (same : map bare new ≡ map bare old) (plain : PlainForm) (slots : List (Option Line)) (t : Tray)
+    (u : Used) where
   changes_none : Runs (changes Commit (states_in old u t)) (world t u slots) (world t u slots) (kept_in old) (kept_in new)
       (Ok (states_in new u t))
   unfolding changes
@@ -32,12 +33,16 @@ module _ (old new : List Place) (same : map bare new ≡ map bare old) (plain : 
       (Ok (net_of plain new u t))
   runs_committed = acted Commit plain plain old new t t u u slots slots (Ok tt) refl changes_none
 
-  pub classes_committed : (seen : List Place) → seen ≡ new → Stands old slots plain t u → (name : List ℕ) → class_in seen name ≡ class_of plain name
-  classes_committed seen is stands name = ap (λ ps. class_in ps name) is ∙ (classes_bare old new same name ∙ stands.apps.classes name)
+  pub classes_committed : (seen : List Place) → seen ≡ new → Stands old slots plain t u → (name : List ℕ)
+      → class_in seen name ≡ class_of plain name
+  classes_committed seen is stands name = ap (λ ps. class_in ps name) is
+      ∙ (classes_bare old new same name ∙ stands.apps.classes name)
 
-  pub breathes_committed : (seen again : List Place) (pulls pushes : List ℕ) → seen ≡ new → again ≡ new → Stands old slots plain t u
+  pub breathes_committed : (seen again : List Place) (pulls pushes : List ℕ) → seen ≡ new → again ≡ new
+      → Stands old slots plain t u
       → AreWired new slots plain (roster_of t).links
-      → IsOrder seen pulls (pull_order plain) → IsOrder again pushes (push_order plain) → Breathes new slots plain pulls pushes t u
+      → IsOrder seen pulls (pull_order plain) → IsOrder again pushes (push_order plain)
+      → Breathes new slots plain pulls pushes t u
   breathes_committed seen again pulls pushes is too stands wired pulled pushed = record {
     stands = stands_bare old new same slots plain t u stands;
     wired = wired;
@@ -46,9 +51,12 @@ module _ (old new : List Place) (same : map bare new ≡ map bare old) (plain : 
   }
 
 -- what is at the ports stands in the slab
-module _ (places : List Place) (plain : PlainForm) (slots : List (Option Line)) (t : Tray) (u : Used) (stands : Stands places slots plain t u) where
+module _ (places : List Place) (plain : PlainForm) (slots : List (Option Line)) (t : Tray) (u : Used)
+    (stands : Stands places slots plain t u) where
   pub ins_there : AreThere slots (roster_of t).links plain.ins
-  ins_there = there_among (roster_of t).links slots plain.links plain.ins stands.links.lines stands.links.listed stands.consistent.ins.linked
+  ins_there = there_among (roster_of t).links slots plain.links plain.ins stands.links.lines stands.links.listed
+      stands.consistent.ins.linked
 
   pub outs_there : AreThere slots (roster_of t).links plain.outs
-  outs_there = there_among (roster_of t).links slots plain.links plain.outs stands.links.lines stands.links.listed stands.consistent.outs.linked
+  outs_there = there_among (roster_of t).links slots plain.links plain.outs stands.links.lines stands.links.listed
+      stands.consistent.outs.linked

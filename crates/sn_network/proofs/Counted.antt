@@ -1,5 +1,6 @@
 -- What the apps haven't passed, as they count it and as their states show it.
-use Rattle.std.proofs.Common.{Bool, List, Some, ap, bytes_eq, false, length, slice_get, slice_index_or, subst, suc, sum_by, sym, true, unwrap_or, zero, ◌<◌, ◌∙◌, ◌∷◌, ◌≡◌, ◌≤◌, ℕ, [], arith, refl, if◌then◌else◌, min, IsSome, ◌+◌}
+use Rattle.std.proofs.Common.{Bool, List, Some, ap, bytes_eq, false, length, slice_get, slice_index_or, subst, suc, sum_by, sym}
+use Rattle.std.proofs.Common.{true, unwrap_or, zero, ◌<◌, ◌∙◌, ◌∷◌, ◌≡◌, ◌≤◌, ℕ, [], arith, refl, if◌then◌else◌, min, IsSome, ◌+◌}
 use mathlib.Core.Path.{fun_ext}
 use Rattle.std.specs.Option.{option_map}
 use Rattle.sn_app.specs.Desk.{Tray}
@@ -15,21 +16,24 @@ use Rattle.sn_network.specs.declared.place.Place.{Place}
 use Rattle.sn_network.proofs.Found.{found_at}
 use Rattle.sn_network.proofs.Sums.{the_same}
 
-pub get_or_here : (places : List Place) (at : ℕ) (d : Place) → at < length places → slice_get places at ≡ Some (slice_index_or places at d)
+pub get_or_here : (places : List Place) (at : ℕ) (d : Place) → at < length places
+    → slice_get places at ≡ Some (slice_index_or places at d)
 get_or_here [] at d within = absurd (omega (arith, within))
 get_or_here (place ∷ places) zero d within = refl
 get_or_here (place ∷ places) (suc at) d within = get_or_here places at d (omega (arith, within))
 
 -- the app at a place counts what the app of its name counts
 module _ (captures : List (List ℕ)) where
-  counted_here : (places : List Place) (at : ℕ) (place : Place) (name : List ℕ) → slice_get places at ≡ Some place → place.name ≡ name
+  counted_here : (places : List Place) (at : ℕ) (place : Place) (name : List ℕ) → slice_get places at ≡ Some place
+      → place.name ≡ name
       → named_in name places ≤ 1 → kind_unread place.kind captures ≡ counted_in places captures name
   counted_here places at place name here own once =
       subst (λ n. kind_unread place.kind captures ≡ counted_in places captures n) own
       (sym (ap (λ o. unwrap_or o 0) (found_at (λ p. kind_unread p.kind captures) places at place here
       (subst (λ n. named_in n places ≤ 1) (sym own) once))))
 
-  pub counted_there : (places : List Place) (at : ℕ) (d : Place) (name : List ℕ) → at < length places → name_in places at ≡ Some name
+  pub counted_there : (places : List Place) (at : ℕ) (d : Place) (name : List ℕ) → at < length places
+      → name_in places at ≡ Some name
       → named_in name places ≤ 1 → kind_unread (slice_index_or places at d).kind captures ≡ counted_in places captures name
   counted_there places at d name within is once =
       let here = get_or_here places at d within in
@@ -37,7 +41,8 @@ module _ (captures : List (List ℕ)) where
       (the_same (sym (ap (option_map (λ (place : Place). place.name)) here) ∙ is)) once
 
 -- apps that can run can count
-pub all_count : (places : List Place) (t : Tray) (captures : List (List ℕ)) → captures ≡ t.log.constants.captures → CanRun places t
+pub all_count : (places : List Place) (t : Tray) (captures : List (List ℕ)) → captures ≡ t.log.constants.captures
+    → CanRun places t
     → CanCountAll places captures
 all_count places t captures same ready i place here =
     subst (λ cs. CanCount place.kind cs) (sym same) (can_count place.kind t (ready i place here))
@@ -57,7 +62,8 @@ shown_count (place ∷ places) used t name = by (bytes_eq name place.name) (show
     by true more = unread_shown place.kind used t
     by false more = more
 
-pub counted_shown : (seen places : List Place) → seen ≡ places → (used : Used) (t : Tray) (captures names : List (List ℕ)) (m n : ℕ)
+pub counted_shown : (seen places : List Place) → seen ≡ places → (used : Used) (t : Tray) (captures names : List (List ℕ))
+    (m n : ℕ)
     → captures ≡ t.log.constants.captures → n ≡ min (sum_by (counted_in seen captures) names) m
     → n ≡ min (sum_by (λ name. unread_if (states_in places used t name)) names) m
 counted_shown seen places whole used t captures names m n same is =
@@ -74,7 +80,8 @@ module _ (places : List Place) (captures : List (List ℕ)) (m : ℕ) (all : Lis
   pub counts_first : All (λ name. IsSome (class_in places name)) all → Counts places captures m all all 0
   counts_first there = record { there = there; adds = adds_first m (counted_in places captures) all }
 
-  pub counts_there : (list left : List (List ℕ)) (name : List ℕ) (total : ℕ) → list ≡ name ∷ left → Counts places captures m all list total
+  pub counts_there : (list left : List (List ℕ)) (name : List ℕ) (total : ℕ) → list ≡ name ∷ left
+      → Counts places captures m all list total
       → IsSome (class_in places name)
   counts_there list left name total is h = All-first (subst (λ ns. All (λ n. IsSome (class_in places n)) ns) is h.there)
     where

@@ -18,7 +18,8 @@ module _ {X : Type 0} (m : ℕ) (f : X → ℕ) (all : List X) where
   pub adds_first : Adds m f all all 0
   adds_first = record { most = omega arith; sum = omega arith }
 
-  pub adds_more : (x : X) (left : List X) (total later : ℕ) → Adds m f all (x ∷ left) total → later ≡ min (total + f x) m → Adds m f all left later
+  pub adds_more : (x : X) (left : List X) (total later : ℕ) → Adds m f all (x ∷ left) total → later ≡ min (total + f x) m
+      → Adds m f all left later
   adds_more x left total later h is =
       let s = sum_by-cons f x left in let e = h.sum in let cut = cut_more m total (f x) (sum_by f left) in
       record { most = omega (arith, is); sum = omega (arith, is, s, e, cut) }

@@ -29,7 +29,8 @@ no_apps : finmap.entries (finmap.empty {X = AppSpec} {R = name_cmp}) ≡ []
 no_apps = no_element _ (sym (finmap.len-entries (finmap.empty {X = AppSpec} {R = name_cmp})) ∙ finmap.len-empty name_cmp AppSpec)
 
 no_outs : finmap.entries (finmap.empty {X = LinkSpec} {R = port_cmp}) ≡ []
-no_outs = no_element _ (sym (finmap.len-entries (finmap.empty {X = LinkSpec} {R = port_cmp})) ∙ finmap.len-empty port_cmp LinkSpec)
+no_outs = no_element _
+    (sym (finmap.len-entries (finmap.empty {X = LinkSpec} {R = port_cmp})) ∙ finmap.len-empty port_cmp LinkSpec)
 
 no_pulls : pull_order empty_form ≡ []
 no_pulls = ap (λ apps. in_order (bringing apps)) no_apps
@@ -71,7 +72,8 @@ stands_empty t u consistent = record {
 }
 
 -- and can breathe
-pub breathes_empty : (places : List Place) (slots : List (Option Line)) (plain : PlainForm) (pulls pushes : List ℕ) (t : Tray) (u : Used)
+pub breathes_empty : (places : List Place) (slots : List (Option Line)) (plain : PlainForm) (pulls pushes : List ℕ) (t : Tray)
+    (u : Used)
     → places ≡ [] → slots ≡ [] → plain ≡ empty_form → pulls ≡ [] → pushes ≡ [] → IsConsistent plain
     → Breathes places slots plain pulls pushes t u
 breathes_empty places slots plain pulls pushes t u no_places no_slots form no_pull no_push consistent =

@@ -1,5 +1,7 @@
 -- The app of a name is at the first place of that name.
-use Rattle.std.proofs.Common.{◌≡◌, ℕ, suc, ◌+◌, ◌<◌, ◌≤◌, Bool, true, false, not, cond, if◌then◌else◌, bytes_eq, nat_lt, ltb-true, List, [], ◌∷◌, length, position, slice_get, Some, None, IsSome, refl, sym, ap, subst, ◌∙◌, arith, one-add}
+use Rattle.std.proofs.Common.{◌≡◌, ℕ, suc, ◌+◌, ◌<◌, ◌≤◌, Bool, true, false, not, cond, if◌then◌else◌, bytes_eq, nat_lt, ltb-true}
+use Rattle.std.proofs.Common.{List, [], ◌∷◌, length, position, slice_get, Some, None, IsSome, refl, sym, ap, subst, ◌∙◌, arith}
+use Rattle.std.proofs.Common.{one-add}
 use Rattle.std.proofs.lemmas.Bool.{false≢true}
 use Rattle.std.specs.List.{position_or_len}
 use Rattle.std.specs.Option.{option_map}
@@ -14,7 +16,8 @@ abbrev at_first : List Place → List ℕ → ℕ
 at_first places name = position_or_len (λ place. bytes_eq name place.name) places
 
 -- where it is within, the name stands there
-named_first : (places : List Place) (name : List ℕ) → at_first places name < length places → name_in places (at_first places name) ≡ Some name
+named_first : (places : List Place) (name : List ℕ) → at_first places name < length places
+    → name_in places (at_first places name) ≡ Some name
 named_first [] name within = absurd (omega (arith, within))
 named_first (x ∷ xs) name within = by (bytes_eq name x.name) refl within (named_first xs name)
   where

@@ -1,5 +1,6 @@
 -- What is read off the app of a name.
-use Rattle.std.proofs.Common.{◌≡◌, ℕ, zero, suc, ◌≤◌, Bool, true, false, cond, if◌then◌else◌, bytes_eq, List, [], ◌∷◌, set, slice_get, Some, refl, sym, ap, ◌∙◌, arith}
+use Rattle.std.proofs.Common.{◌≡◌, ℕ, zero, suc, ◌≤◌, Bool, true, false, cond, if◌then◌else◌, bytes_eq, List, [], ◌∷◌, set}
+use Rattle.std.proofs.Common.{slice_get, Some, refl, sym, ap, ◌∙◌, arith}
 use Rattle.std.proofs.lemmas.List.Sums.{sum_by-cons}
 use Rattle.std.specs.Cmp.Lexicographic.{bytes_decides}
 use Rattle.sn_network.specs.Places.{found, is_named, named_in}
@@ -22,7 +23,8 @@ unfolding is_named
 named_true name place e = ap (λ b. cond {A = ℕ} b 1 0) e
 
 -- a name that is somewhere is nowhere before
-pub named_past : (name : List ℕ) (place : Place) (places : List Place) → named_in name (place ∷ places) ≤ 1 → 1 ≤ named_in name places
+pub named_past : (name : List ℕ) (place : Place) (places : List Place) → named_in name (place ∷ places) ≤ 1
+    → 1 ≤ named_in name places
     → bytes_eq name place.name ≡ false
 unfolding named_in
 named_past name place places once there = by (bytes_eq name place.name) refl
@@ -33,7 +35,8 @@ named_past name place places once there = by (bytes_eq name place.name) refl
         let here = named_true name place e in let s = sum_by-cons (is_named name) place places in
         absurd (omega (arith, here, s, once, there))
 
-pub once_rest : (name : List ℕ) (place : Place) (places : List Place) → named_in name (place ∷ places) ≤ 1 → named_in name places ≤ 1
+pub once_rest : (name : List ℕ) (place : Place) (places : List Place) → named_in name (place ∷ places) ≤ 1
+    → named_in name places ≤ 1
 unfolding named_in
 once_rest name place places once = let s = sum_by-cons (is_named name) place places in omega (arith, s, once)
 
@@ -57,7 +60,8 @@ module _ {A : Type 0} (f : Place → A) where
       ap (λ b. if b then Some (f q) else found f qs p.name) past ∙ found_at qs i p here (once_rest p.name q qs once)
 
   -- another app of the same name
-  pub found_set_other : (places : List Place) (i : ℕ) (p q : Place) (name : List ℕ) → slice_get places i ≡ Some p → q.name ≡ p.name
+  pub found_set_other : (places : List Place) (i : ℕ) (p q : Place) (name : List ℕ) → slice_get places i ≡ Some p
+      → q.name ≡ p.name
       → bytes_eq name p.name ≡ false → found f (set places i q) name ≡ found f places name
   unfolding found
   found_set_other [] i p q name here same other = refl

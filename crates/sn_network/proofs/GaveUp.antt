@@ -12,6 +12,8 @@ unfolding desk_of
 gave_up m w before after = record { answers = answers_lost m (stays_same w.tray); moves = λ x e. absurd cc }
 
 -- as an answer has it
-pub gave_up_at : {R : Type 0} (m : Meaning R) (w : World) (before after : ℕ → ℕ) (x : R) (r : Result Unit Halt) → r ≡ Err OutOfMemory
+pub gave_up_at : {R : Type 0} (m : Meaning R) (w : World) (before after : ℕ → ℕ) (x : R) (r : Result Unit Halt)
+    → r ≡ Err OutOfMemory
     → Runs m w w before after (stands_at x r)
-gave_up_at m w before after x r is = subst (λ answer. Runs m w w before after (stands_at x answer)) (sym is) (gave_up m w before after)
+gave_up_at m w before after x r is = subst (λ answer. Runs m w w before after (stands_at x answer)) (sym is)
+    (gave_up m w before after)

@@ -23,7 +23,8 @@ use Rattle.sn_network.specs.Standing.{HasPlainLinks}
 use Rattle.sn_network.proofs.Taken.{taken_free, taken_new}
 
 -- the roster stays
-pub roster_kept : {R : Type 0} {m : Meaning R} {r : Result R Halt} {before after : ℕ → ℕ} (t s : Tray) (u v : Used) (slots later : List (Option Line))
+pub roster_kept : {R : Type 0} {m : Meaning R} {r : Result R Halt} {before after : ℕ → ℕ} (t s : Tray) (u v : Used)
+    (slots later : List (Option Line))
     → Runs m (world t u slots) (world s v later) before after r → (roster_of s).links ≡ (roster_of t).links
 unfolding desk_of
 roster_kept t s u v slots later run = ap (λ constants. constants.roster.links) run.answers.stays.constants
@@ -49,7 +50,8 @@ module _ (slots : List (Option Line)) (roster : List LinkSpec) (link : LinkSpec)
         (record {
           lines = lines plain.links has.lines;
           fits = fits has.fits;
-          listed = λ other stays. has.listed other (was other (sym (finset.contains-remove link_cmp_total plain.links link other) ∙ stays));
+          listed = λ other stays. has.listed other
+              (was other (sym (finset.contains-remove link_cmp_total plain.links link other) ∙ stays));
         })
       where
         was : (other : LinkSpec) → (not (eq_by_cmp link_cmp other link) && finset.contains plain.links other) ≡ true
@@ -80,25 +82,30 @@ module _ (slots : List (Option Line)) (roster : List LinkSpec) (link : LinkSpec)
               (sym (finset.contains-insert link_cmp_total plain.links link other) ∙ stays);
         })
       where
-        one_of : (other : LinkSpec) (b : Bool) → eq_by_cmp link_cmp other link ≡ b → (b || finset.contains plain.links other) ≡ true
+        one_of : (other : LinkSpec) (b : Bool) → eq_by_cmp link_cmp other link ≡ b
+            → (b || finset.contains plain.links other) ≡ true
             → HasLink roster other
-        one_of other true e h = subst (λ l. HasLink roster l) (sym (exact_links other link (equal_from (link_cmp other link) e))) named
+        one_of other true e h = subst (λ l. HasLink roster l) (sym (exact_links other link (equal_from (link_cmp other link) e)))
+            named
         one_of other false e h = has.listed other h
 
 -- the rows' runs, at the link's row
-pub runs_freeing : (link : LinkSpec) (t s : Tray) (u v : Used) (slots later : List (Option Line)) (before after : ℕ → ℕ) (r : Result Unit Halt)
+pub runs_freeing : (link : LinkSpec) (t s : Tray) (u v : Used) (slots later : List (Option Line)) (before after : ℕ → ℕ)
+    (r : Result Unit Halt)
     → Runs (closes (row_of_link (roster_of t).links link)) (world t u slots) (world s v later) before after r
     → Runs (freeing link) (world t u slots) (world s v later) before after r
 unfolding freeing desk_of
 runs_freeing link t s u v slots later before after r run = runs_look _ run
 
-pub runs_opening : (link : LinkSpec) (t s : Tray) (u v : Used) (slots later : List (Option Line)) (before after : ℕ → ℕ) (r : Result Unit Halt)
+pub runs_opening : (link : LinkSpec) (t s : Tray) (u v : Used) (slots later : List (Option Line)) (before after : ℕ → ℕ)
+    (r : Result Unit Halt)
     → Runs (opens (row_of_link (roster_of t).links link)) (world t u slots) (world s v later) before after r
     → Runs (opening link) (world t u slots) (world s v later) before after r
 unfolding opening desk_of
 runs_opening link t s u v slots later before after r run = runs_look _ run
 
 -- the same of an equal roster
-pub links_of_roster : {slots : List (Option Line)} {links : finset.FinSet link_cmp} {roster other : List LinkSpec} → other ≡ roster
+pub links_of_roster : {slots : List (Option Line)} {links : finset.FinSet link_cmp} {roster other : List LinkSpec}
+    → other ≡ roster
     → HasPlainLinks slots links roster → HasPlainLinks slots links other
 links_of_roster {slots} {links} same h = subst (λ r. HasPlainLinks slots links r) (sym same) h

@@ -1,6 +1,7 @@
 -- The orders by places are those of the plain form.
 use Rattle.std.specs.FinMap as finmap
-use Rattle.std.proofs.Common.{◌≡◌, ℕ, zero, suc, Bool, true, false, cond, List, [], ◌∷◌, map, filter, slice_index_or, Option, Some, None, IsSome, refl, sym, ap, subst, ◌∙◌, arith}
+use Rattle.std.proofs.Common.{◌≡◌, ℕ, zero, suc, Bool, true, false, cond, List, [], ◌∷◌, map, filter, slice_index_or, Option}
+use Rattle.std.proofs.Common.{Some, None, IsSome, refl, sym, ap, subst, ◌∙◌, arith}
 use Rattle.std.proofs.lemmas.Bool.{false≢true}
 use Rattle.std.proofs.lemmas.List.Elements.{All-contains}
 use Rattle.std.specs.BTreeMap.{is_at}
@@ -31,7 +32,8 @@ found_first app apps =
     let e : is_at (name_cmp app.0) app.0 ≡ true = ap is_eq (tied_itself name_cmp_total app.0) in
     subst (λ b. IsSome (cond b (Some app.1) (entry_at app.0 apps))) (sym e) refl
 
-found_later : (app : List ℕ × AppSpec) (apps : Apps) (name : List ℕ) → IsSome (entry_at name apps) → IsSome (entry_at name (app ∷ apps))
+found_later : (app : List ℕ × AppSpec) (apps : Apps) (name : List ℕ) → IsSome (entry_at name apps)
+    → IsSome (entry_at name (app ∷ apps))
 found_later app apps name some = by (is_at (name_cmp name) app.0)
   where
     by : (b : Bool) → IsSome (cond b (Some app.1) (entry_at name apps))
@@ -57,10 +59,12 @@ all_bringing (app ∷ apps) = by (brings_in app.1.class) (all_bringing apps)
 
 -- an entry's app stands in the network
 in_network : (places : List Place) (apps : Apps) (name : List ℕ)
-    → ((n : List ℕ) → class_in places n ≡ option_map (λ spec. spec.class) (finmap.get (finmap.from_entries {R = name_cmp} apps) n))
+    → ((n : List ℕ) → class_in places n ≡ option_map (λ spec. spec.class)
+    (finmap.get (finmap.from_entries {R = name_cmp} apps) n))
     → IsSome (entry_at name apps) → IsSome (class_in places name)
 in_network places apps name classes some =
-    subst (λ o. IsSome o) (sym (classes name ∙ ap (option_map (λ (spec : AppSpec). spec.class)) (get_entries name_cmp_total apps name)))
+    subst (λ o. IsSome o)
+    (sym (classes name ∙ ap (option_map (λ (spec : AppSpec). spec.class)) (get_entries name_cmp_total apps name)))
     (has_class (entry_at name apps) some)
   where
     has_class : (o : Option AppSpec) → IsSome o → IsSome (option_map (λ (spec : AppSpec). spec.class) o)
@@ -69,22 +73,26 @@ in_network places apps name classes some =
 
 -- the apps of a plain form stand in the network
 pub apps_stand : (places : List Place) (apps : Apps)
-    → ((n : List ℕ) → class_in places n ≡ option_map (λ spec. spec.class) (finmap.get (finmap.from_entries {R = name_cmp} apps) n))
+    → ((n : List ℕ) → class_in places n ≡ option_map (λ spec. spec.class)
+    (finmap.get (finmap.from_entries {R = name_cmp} apps) n))
     → All (λ name. IsSome (class_in places name)) (keys_of apps)
 apps_stand places apps classes k d lt =
     in_network places apps (slice_index_or (keys_of apps) k d) classes (all_found apps k d lt)
 
 -- the names of an order stand in the network
 module _ (places : List Place) (apps : Apps) (names seen : List (List ℕ)) (same : seen ≡ names)
-    (classes : (n : List ℕ) → class_in places n ≡ option_map (λ spec. spec.class) (finmap.get (finmap.from_entries {R = name_cmp} apps) n)) where
-  pub pulled_stand : (list : List (List ℕ)) → list ≡ bringing apps → All (Contains list) names → All (λ name. IsSome (class_in places name)) seen
+    (classes : (n : List ℕ)
+    → class_in places n ≡ option_map (λ spec. spec.class) (finmap.get (finmap.from_entries {R = name_cmp} apps) n)) where
+  pub pulled_stand : (list : List (List ℕ)) → list ≡ bringing apps → All (Contains list) names
+      → All (λ name. IsSome (class_in places name)) seen
   pulled_stand list is among =
       subst (λ ns. All (λ name. IsSome (class_in places name)) ns) (sym same) (λ k d lt.
       in_network places apps (slice_index_or names k d) classes
       (All-contains (λ name. IsSome (entry_at name apps)) list (slice_index_or names k d)
       (subst (λ ns. All (λ name. IsSome (entry_at name apps)) ns) (sym is) (all_bringing apps)) (among k d lt)))
 
-  pub pushed_stand : (list : List (List ℕ)) → list ≡ keys_of apps → All (Contains list) names → All (λ name. IsSome (class_in places name)) seen
+  pub pushed_stand : (list : List (List ℕ)) → list ≡ keys_of apps → All (Contains list) names
+      → All (λ name. IsSome (class_in places name)) seen
   pushed_stand list is among =
       subst (λ ns. All (λ name. IsSome (class_in places name)) ns) (sym same) (λ k d lt.
       in_network places apps (slice_index_or names k d) classes
@@ -92,7 +100,8 @@ module _ (places : List Place) (apps : Apps) (names seen : List (List ℕ)) (sam
       (subst (λ ns. All (λ name. IsSome (entry_at name apps)) ns) (sym is) (all_found apps)) (among k d lt)))
 
 -- entries in order are those of their map
-pub app_entries : (apps : Apps) → IsStrictlySortedBy name_cmp (keys_of apps) → finmap.entries (finmap.from_entries {R = name_cmp} apps) ≡ apps
+pub app_entries : (apps : Apps) → IsStrictlySortedBy name_cmp (keys_of apps)
+    → finmap.entries (finmap.from_entries {R = name_cmp} apps) ≡ apps
 app_entries apps sorted = entries_same name_cmp_total apps sorted
 
 port_entries : (ports : List ((List ℕ × List ℕ) × LinkSpec)) → IsStrictlySortedBy port_cmp (keys_of ports)
@@ -104,5 +113,6 @@ pub port_values : (ports : List ((List ℕ × List ℕ) × LinkSpec)) → IsStri
     → values_of ports ≡ finmap.values (finmap.from_entries {R = port_cmp} ports)
 port_values ports sorted = ap values_of (sym (port_entries ports sorted))
 
-pub app_keys : (apps : Apps) → IsStrictlySortedBy name_cmp (keys_of apps) → keys_of apps ≡ finmap.keys (finmap.from_entries {R = name_cmp} apps)
+pub app_keys : (apps : Apps) → IsStrictlySortedBy name_cmp (keys_of apps)
+    → keys_of apps ≡ finmap.keys (finmap.from_entries {R = name_cmp} apps)
 app_keys apps sorted = ap keys_of (sym (app_entries apps sorted))

@@ -1,5 +1,6 @@
 -- An app comes to a network.
-use Rattle.std.proofs.Common.{◌≡◌, ℕ, zero, suc, ◌+◌, ◌<◌, ◌≤◌, Bool, true, false, cond, if◌then◌else◌, bytes_eq, List, [], ◌∷◌, ◌++◌, slice_get, Option, Some, None, Result, Ok, Err, refl, sym, ap, subst, ◌∙◌, arith}
+use Rattle.std.proofs.Common.{◌≡◌, ℕ, zero, suc, ◌+◌, ◌<◌, ◌≤◌, Bool, true, false, cond, if◌then◌else◌, bytes_eq, List, [], ◌∷◌}
+use Rattle.std.proofs.Common.{◌++◌, slice_get, Option, Some, None, Result, Ok, Err, refl, sym, ap, subst, ◌∙◌, arith}
 use mathlib.Core.Path.{fun_ext}
 use Rattle.std.proofs.lemmas.List.Sums.{sum_by-cons, sum_by_push}
 use Rattle.sn_app.specs.Answers.{Stays}
@@ -104,7 +105,8 @@ module _ (places : List Place) (q : Place) where
           let here : cond {A = ℕ} (bytes_eq n q.name) 1 0 ≡ 0 = ap (λ b. cond {A = ℕ} b 1 0) e in
           let one = once n in omega (arith, s, here, one)
 
-  get_pushed : (j : ℕ) (x : Place) → slice_get (places ++ q ∷ []) j ≡ Some x → (Σ : Type 0) → (slice_get places j ≡ Some x → Σ) → (x ≡ q → Σ) → Σ
+  get_pushed : (j : ℕ) (x : Place) → slice_get (places ++ q ∷ []) j ≡ Some x → (Σ : Type 0) → (slice_get places j ≡ Some x → Σ)
+      → (x ≡ q → Σ) → Σ
   get_pushed j x there goal old new = walk places j there old
     where
       walk : (xs : List Place) (j : ℕ) → slice_get (xs ++ q ∷ []) j ≡ Some x → (slice_get xs j ≡ Some x → goal) → goal
@@ -119,7 +121,8 @@ module _ (places : List Place) (q : Place) where
       (λ is. subst (λ (y : Place). kind_can_run y.kind s) (sym is) ready)
 
   -- what is kept is as before, where the new app keeps nothing
-  kept_pushed : ((place : ℕ) → kind_places q.kind place ≡ 0) → (place : ℕ) → kept_in (places ++ q ∷ []) place ≡ kept_in places place
+  kept_pushed : ((place : ℕ) → kind_places q.kind place ≡ 0) → (place : ℕ)
+      → kept_in (places ++ q ∷ []) place ≡ kept_in places place
   unfolding kept_in
   kept_pushed none place =
       let s = sum_by_push (λ (app : Place). kind_places app.kind place) places q in let z = none place in omega (arith, s, z)
@@ -133,13 +136,16 @@ states_stay places u v t s stays kept = fun_ext (λ name.
     (λ j x there is. kind_keeps x.kind u v t s stays (λ place k.
     let w = one_within (λ (app : Place). kind_places app.kind place) places j x there in kept place (omega (arith, w, k)))))
 
-module _ (places : List Place) (t s : Tray) (u v : Used) (slots : List (Option Line)) (h : IsSound (world t u slots) (kept_in places))
+module _ (places : List Place) (t s : Tray) (u v : Used) (slots : List (Option Line))
+    (h : IsSound (world t u slots) (kept_in places))
     (name : List ℕ) (spec : AppSpec) (row : ℕ) (row_is : row ≡ row_of (roster_of t).apps name) where
-  beside_all : {r : Result AppState Halt} → Runs (starts spec.class spec.arg row) (world t u slots) (world s v slots) nowhere nowhere r
+  beside_all : {r : Result AppState Halt}
+      → Runs (starts spec.class spec.arg row) (world t u slots) (world s v slots) nowhere nowhere r
       → Runs (starting name spec) (world t u slots) (world s v slots) (kept_in places) (kept_in places) r
   unfolding starting desk_of
   beside_all {r} run =
-      runs_look _ (subst (λ n. Runs (starts spec.class spec.arg n) (world t u slots) (world s v slots) (kept_in places) (kept_in places) r)
+      runs_look _ (subst (λ n. Runs (starts spec.class spec.arg n) (world t u slots) (world s v slots) (kept_in places)
+      (kept_in places) r)
       row_is (runs_as (kept_in places) (kept_in places) (λ q. omega arith) (λ q. omega arith) (runs_beside (kept_in places) run)))
 
   -- an app started, and its name has its state
@@ -167,13 +173,15 @@ module _ (places : List Place) (t s : Tray) (u v : Used) (slots : List (Option L
   -- it didn't start
   pub runs_not_started : (after : ℕ → ℕ) (halt : Halt)
       → Runs (starts spec.class spec.arg row) (world t u slots) (world s v slots) nowhere nowhere (Err halt)
-      → Runs (changes (StartApp name spec) (states_in places u t)) (world t u slots) (world s v slots) (kept_in places) after (Err halt)
+      → Runs (changes (StartApp name spec) (states_in places u t)) (world t u slots) (world s v slots) (kept_in places) after
+      (Err halt)
   unfolding changes
   runs_not_started after halt run =
       runs_fail (λ state. pure (set_named name (Some state) (states_in places u t))) after (beside_all run)
 
 -- what every run keeps
-pub run_stays : {R : Type 0} {m : Meaning R} {r : Result R Halt} {before after : ℕ → ℕ} (t s : Tray) (u v : Used) (slots later : List (Option Line))
+pub run_stays : {R : Type 0} {m : Meaning R} {r : Result R Halt} {before after : ℕ → ℕ} (t s : Tray) (u v : Used)
+    (slots later : List (Option Line))
     → Runs m (world t u slots) (world s v later) before after r → Stays t s
 unfolding desk_of
 run_stays t s u v slots later run = run.answers.stays

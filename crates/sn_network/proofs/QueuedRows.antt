@@ -1,5 +1,6 @@
 -- The packets in all links, row by row.
-use Rattle.std.proofs.Common.{inl, inr, Bool, List, None, Option, Some, [], ap, arith, false, length, refl, suc, sum_by, sym, true, zero, ◌+◌, ◌<◌, ◌==◌, ◌∙◌, ◌∷◌, ◌≡◌, ◌≢◌, ◌≤◌, ℕ, min, subst, if◌then◌else◌}
+use Rattle.std.proofs.Common.{inl, inr, Bool, List, None, Option, Some, [], ap, arith, false, length, refl, suc, sum_by, sym}
+use Rattle.std.proofs.Common.{true, zero, ◌+◌, ◌<◌, ◌==◌, ◌∙◌, ◌∷◌, ◌≡◌, ◌≢◌, ◌≤◌, ℕ, min, subst, if◌then◌else◌}
 use Rattle.std.proofs.lemmas.Bool.{cases_lt, eqb-false, eqb-true}
 use Rattle.std.proofs.lemmas.List.{length-map}
 use Rattle.std.proofs.lemmas.List.Sums.{sum_by-cons}
@@ -18,7 +19,8 @@ in_rows : ℕ → (ℕ → Option Queue) → ℕ
 in_rows zero queues = 0
 in_rows (suc row) queues = in_rows row queues + readable_of (queues row)
 
-shown_rows : (t : Tray) (u : Used) (slots : List (Option Line)) (n : ℕ) → packets_in n (desk_of (world t u slots)) ≡ in_rows n (queue_in u slots)
+shown_rows : (t : Tray) (u : Used) (slots : List (Option Line)) (n : ℕ)
+    → packets_in n (desk_of (world t u slots)) ≡ in_rows n (queue_in u slots)
 unfolding packets_in desk_of in_rows
 shown_rows t u slots zero = refl
 shown_rows t u slots (suc n) = ap (λ k. k + readable_of (queue_in u slots n)) (shown_rows t u slots n)
@@ -33,7 +35,8 @@ unfolding has_row
 other_has row line apart = ap {B = ℕ} (λ (b : Bool). if b then 1 else 0) (ne_eqb line.row row apart)
 
 -- where all rows have as many
-rows_same : (f g : ℕ → Option Queue) (n : ℕ) → ((row : ℕ) → row < n → readable_of (f row) ≡ readable_of (g row)) → in_rows n f ≡ in_rows n g
+rows_same : (f g : ℕ → Option Queue) (n : ℕ) → ((row : ℕ) → row < n → readable_of (f row) ≡ readable_of (g row))
+    → in_rows n f ≡ in_rows n g
 unfolding in_rows
 rows_same f g zero same = refl
 rows_same f g (suc n) same =
@@ -91,12 +94,14 @@ module _ (u : Used) (n : ℕ) where
       let first = rows_first line.row (Some line) slots in
       let own = own_row line in
       let none : rows_in line.row slots ≡ 0 = let once = h.once line.row in omega (arith, first, own, once) in
-      let count : readable_of (Some (queue_of u line)) ≡ length line.queued = length-map line.queued (λ entry. packet_at u entry.0) in
+      let count : readable_of (Some (queue_of u line)) ≡ length line.queued =
+      length-map line.queued (λ entry. packet_at u entry.0) in
       let left : readable_of (queue_in u slots line.row) ≡ 0 = ap readable_of (queue_none u slots line.row none) in
       let here : readable_of (queue_in u (Some line ∷ slots) line.row) ≡ readable_of (Some (queue_of u line)) =
       ap readable_of (queue_own u line (queue_in u slots line.row)) in
       rows_more (queue_in u (Some line ∷ slots)) (queue_in u slots) line.row (length line.queued) n (below first own)
-      (λ row apart. ap readable_of (queue_past u (Some line) row (queue_in u slots row) (other_has row line (λ s. apart (sym s)))))
+      (λ row apart. ap readable_of
+      (queue_past u (Some line) row (queue_in u slots row) (other_has row line (λ s. apart (sym s)))))
       (omega (arith, here, count, left))
     where
       below : rows_in line.row (Some line ∷ slots) ≡ has_row line.row (Some line) + rows_in line.row slots

@@ -1,5 +1,6 @@
 -- An app of a network takes a new argument.
-use Rattle.std.proofs.Common.{◌≡◌, ℕ, ◌<◌, ◌≤◌, List, set, slice_get, Option, Some, Result, Ok, Err, OnOk, refl, sym, ap, subst, ◌∙◌}
+use Rattle.std.proofs.Common.{◌≡◌, ℕ, ◌<◌, ◌≤◌, List, set, slice_get, Option, Some, Result, Ok, Err, OnOk, refl, sym, ap, subst}
+use Rattle.std.proofs.Common.{◌∙◌}
 use Rattle.sn_actions.specs.declared.action.Action.TheVariants.{ReconfigApp}
 use Rattle.sn_config.specs.declared.app_spec.AppSpec.{AppSpec}
 use Rattle.sn_app.specs.Answers.{Stays}
@@ -24,7 +25,8 @@ use Rattle.sn_network.proofs.Called.{can_run_after, kept_after, kept_parts, rest
 use Rattle.sn_network.proofs.Found.{found_at}
 
 -- the class of an app that stands once under its name
-pub class_read : (places : List Place) (i : ℕ) (p : Place) (name : List ℕ) (class : Class) → slice_get places i ≡ Some p → p.name ≡ name
+pub class_read : (places : List Place) (i : ℕ) (p : Place) (name : List ℕ) (class : Class) → slice_get places i ≡ Some p
+    → p.name ≡ name
     → ((n : List ℕ) → named_in n places ≤ 1) → class_in places name ≡ Some class → kind_class p.kind ≡ class
 class_read places i p name class here is once has =
     the_class (sym (found_at (λ (place : Place). kind_class place.kind) places i p here (once p.name))
@@ -38,7 +40,8 @@ module _ (places : List Place) (i : ℕ) (p q : Place) (here : slice_get places 
     (t s : Tray) (u v : Used) (slots : List (Option Line)) (h : IsSound (world t u slots) (kept_in places)) where
   -- the run of the app's row is that of the network's
   pub runs_reconfigured : (name : List ℕ) (spec : AppSpec) (r : Result Unit Halt) → p.name ≡ name
-      → Runs (reconfigs spec.arg (kind_state p.kind u t)) (world t u slots) (world s v slots) (kind_places p.kind) (kind_places q.kind)
+      → Runs (reconfigs spec.arg (kind_state p.kind u t)) (world t u slots) (world s v slots) (kind_places p.kind)
+      (kind_places q.kind)
       (stands_at (kind_state q.kind v s) r)
       → Runs (changes (ReconfigApp name spec) (states_in places u t)) (world t u slots) (world s v slots)
       (kept_in places) (kept_in (set places i q)) (stands_at (states_in (set places i q) v s) r)
@@ -48,9 +51,11 @@ module _ (places : List Place) (i : ℕ) (p q : Place) (here : slice_get places 
       (kept_in places) (kept_in (set places i q)) (stands_at (states_in (set places i q) v s) r)) is
       (subst (λ (state : Option AppState).
       Runs (reconfiguring spec.arg state >>= (λ later. pure (set_named p.name later (states_in places u t))))
-      (world t u slots) (world s v slots) (kept_in places) (kept_in (set places i q)) (stands_at (states_in (set places i q) v s) r))
+      (world t u slots) (world s v slots) (kept_in places) (kept_in (set places i q))
+      (stands_at (states_in (set places i q) v s) r))
       (sym (found_at (λ (place : Place). kind_state place.kind u t) places i p here (once p.name)))
-      (by r (runs_as (kept_in places) (kept_in (set places i q)) (kept_parts places i p here) (kept_after places i p q here same once)
+      (by r (runs_as (kept_in places) (kept_in (set places i q)) (kept_parts places i p here)
+      (kept_after places i p q here same once)
       (runs_beside (rest_of places p) run))
       (λ x e place k. (run.moves x e).kept (rest_of places p) (sound_as (λ n. sym (kept_parts places i p here n)) h) place k)
       run.answers.stays))
@@ -58,7 +63,8 @@ module _ (places : List Place) (i : ℕ) (p q : Place) (here : slice_get places 
       by : (r : Result Unit Halt)
           → Runs (reconfigs spec.arg (kind_state p.kind u t)) (world t u slots) (world s v slots)
           (kept_in places) (kept_in (set places i q)) (stands_at (kind_state q.kind v s) r)
-          → ((x : AppState) → stands_at (kind_state q.kind v s) r ≡ Ok x → (place : ℕ) → 0 < rest_of places p place → v place ≡ u place)
+          → ((x : AppState) → stands_at (kind_state q.kind v s) r ≡ Ok x → (place : ℕ) → 0 < rest_of places p place
+          → v place ≡ u place)
           → Stays t s
           → Runs (reconfigs spec.arg (kind_state p.kind u t) >>= (λ later. pure (Some later))
           >>= (λ later. pure (set_named p.name later (states_in places u t)))) (world t u slots) (world s v slots)

@@ -1,5 +1,6 @@
 -- An app goes from a network.
-use Rattle.std.proofs.Common.{◌≡◌, ℕ, zero, suc, ◌+◌, ◌-◌, ◌<◌, ◌≤◌, Bool, true, false, cond, if◌then◌else◌, bytes_eq, List, [], ◌∷◌, remove, slice_get, Option, Some, None, Result, Ok, Err, OnOk, refl, sym, ap, subst, ◌∙◌, arith}
+use Rattle.std.proofs.Common.{◌≡◌, ℕ, zero, suc, ◌+◌, ◌-◌, ◌<◌, ◌≤◌, Bool, true, false, cond, if◌then◌else◌, bytes_eq, List, []}
+use Rattle.std.proofs.Common.{◌∷◌, remove, slice_get, Option, Some, None, Result, Ok, Err, OnOk, refl, sym, ap, subst, ◌∙◌, arith}
 use mathlib.Core.Path.{fun_ext}
 use Rattle.std.proofs.lemmas.List.Sums.{sum_by-cons}
 use Rattle.sn_actions.specs.declared.action.Action.TheVariants.{StopApp}
@@ -26,7 +27,8 @@ use Rattle.sn_network.proofs.Found.{found_at, found_set_other}
 use Rattle.sn_network.proofs.Sums.{get_removed, one_within, sum_remove, the_same}
 
 -- a name that no app has is read off none
-none_named : {A : Type 0} (f : Place → A) (places : List Place) (name : List ℕ) → named_in name places ≡ 0 → found f places name ≡ None
+none_named : {A : Type 0} (f : Place → A) (places : List Place) (name : List ℕ) → named_in name places ≡ 0
+    → found f places name ≡ None
 unfolding found named_in is_named
 none_named f [] name e = refl
 none_named f (q ∷ qs) name e =
@@ -38,7 +40,8 @@ none_named f (q ∷ qs) name e =
         → (named_in name qs ≡ 0 → found f qs name ≡ None)
         → (if b then Some (f q) else found f qs name) ≡ None
     by true is s more =
-        let here : cond {A = ℕ} (bytes_eq name q.name) 1 0 ≡ 1 = ap (λ b. cond {A = ℕ} b 1 0) is in absurd (omega (arith, here, s, e))
+        let here : cond {A = ℕ} (bytes_eq name q.name) 1 0 ≡ 1 = ap (λ b. cond {A = ℕ} b 1 0) is in
+        absurd (omega (arith, here, s, e))
     by false is s more = more (omega (arith, s, e))
 
 module _ (places : List Place) (i : ℕ) (p : Place) (here : slice_get places i ≡ Some p)
@@ -148,13 +151,15 @@ pub own_kept : (places : List Place) (i : ℕ) (p : Place) (u : Used) → slice_
 unfolding kept_in
 own_kept places i p u here h = record {
   once = λ place.
-      let w = one_within (λ (app : Place). kind_places app.kind place) places i p here in let o = h.once place in omega (arith, w, o);
+      let w = one_within (λ (app : Place). kind_places app.kind place) places i p here in let o = h.once place in
+      omega (arith, w, o);
   in_use = λ place k.
       let w = one_within (λ (app : Place). kind_places app.kind place) places i p here in h.in_use place (omega (arith, w, k));
 }
 
 -- as an answer has it
-pub ready_left : (places : List Place) (i : ℕ) (p : Place) → slice_get places i ≡ Some p → (once : (name : List ℕ) → named_in name places ≤ 1)
+pub ready_left : (places : List Place) (i : ℕ) (p : Place) → slice_get places i ≡ Some p
+    → (once : (name : List ℕ) → named_in name places ≤ 1)
     → (t s : Tray) (r : Result Unit Halt) → Stays t s → CanRun places t → OnOk r (CanRun (remove places i) s)
 ready_left places i p here once t s (Ok done) stays ready = ready_removed places i p here once t s stays ready
 ready_left places i p here once t s (Err halt) stays ready = tt

@@ -1,5 +1,6 @@
 -- Sums over a list, and one of its elements.
-use Rattle.std.proofs.Common.{◌≡◌, ◌≢◌, ℕ, zero, suc, ◌+◌, ◌<◌, ◌≤◌, List, [], ◌∷◌, length, remove, set, slice_get, slice_index_or, sum_by, Some, refl, sym, ap, subst, arith}
+use Rattle.std.proofs.Common.{◌≡◌, ◌≢◌, ℕ, zero, suc, ◌+◌, ◌<◌, ◌≤◌, List, [], ◌∷◌, length, remove, set, slice_get}
+use Rattle.std.proofs.Common.{slice_index_or, sum_by, Some, refl, sym, ap, subst, arith}
 use Rattle.std.proofs.lemmas.List.Sums.{sum_by-cons}
 
 pub the_same : {X : Type 0} {x y : X} → Some x ≡ Some y → x ≡ y
@@ -45,9 +46,11 @@ module _ {X : Type 0} where
     two_within [] i j x y apart e g = absurd cc
     two_within (z ∷ zs) zero zero x y apart e g = absurd (apart refl)
     two_within (z ∷ zs) zero (suc j) x y apart e g =
-        let h : f z ≡ f x = ap f (the_same e) in let k = one_within zs j y g in let s = sum_by-cons f z zs in omega (arith, h, k, s)
+        let h : f z ≡ f x = ap f (the_same e) in let k = one_within zs j y g in let s = sum_by-cons f z zs in
+        omega (arith, h, k, s)
     two_within (z ∷ zs) (suc i) zero x y apart e g =
-        let h : f z ≡ f y = ap f (the_same g) in let k = one_within zs i x e in let s = sum_by-cons f z zs in omega (arith, h, k, s)
+        let h : f z ≡ f y = ap f (the_same g) in let k = one_within zs i x e in let s = sum_by-cons f z zs in
+        omega (arith, h, k, s)
     two_within (z ∷ zs) (suc i) (suc j) x y apart e g =
         let h = two_within zs i j x y (λ s. apart (ap suc s)) e g in let s = sum_by-cons f z zs in omega (arith, h, s)
 
@@ -55,7 +58,8 @@ module _ {X : Type 0} where
     pub sum_set : (xs : List X) (i : ℕ) (x y : X) → slice_get xs i ≡ Some x → sum_by f (set xs i y) + f x ≡ sum_by f xs + f y
     sum_set [] i x y e = absurd cc
     sum_set (z ∷ zs) zero x y e =
-        let h : f z ≡ f x = ap f (the_same e) in let s = sum_by-cons f z zs in let k = sum_by-cons f y zs in omega (arith, h, s, k)
+        let h : f z ≡ f x = ap f (the_same e) in let s = sum_by-cons f z zs in let k = sum_by-cons f y zs in
+        omega (arith, h, s, k)
     sum_set (z ∷ zs) (suc i) x y e =
         let h = sum_set zs i x y e in let s = sum_by-cons f z zs in let k = sum_by-cons f z (set zs i y) in omega (arith, h, s, k)
 
@@ -64,7 +68,8 @@ module _ {X : Type 0} where
     sum_remove [] i x e = absurd cc
     sum_remove (z ∷ zs) zero x e = let h : f z ≡ f x = ap f (the_same e) in let s = sum_by-cons f z zs in omega (arith, h, s)
     sum_remove (z ∷ zs) (suc i) x e =
-        let h = sum_remove zs i x e in let s = sum_by-cons f z zs in let k = sum_by-cons f z (remove zs i) in omega (arith, h, s, k)
+        let h = sum_remove zs i x e in let s = sum_by-cons f z zs in let k = sum_by-cons f z (remove zs i) in
+        omega (arith, h, s, k)
 
   -- what is left was there
   pub get_removed : (xs : List X) (i j : ℕ) (x : X) (goal : Type 0) → slice_get (remove xs i) j ≡ Some x

@@ -1,7 +1,8 @@
 -- What a plain form that took an action was, and is.
 use Rattle.std.specs.FinMap as finmap
 use Rattle.std.specs.FinSet as finset
-use Rattle.std.proofs.Common.{◌≡◌, Bool, true, false, cond, is_some, bytes_eq, ◌||◌, List, ℕ, Option, Some, None, IsSome, Ok, Err, refl, sym, ap, ◌∙◌}
+use Rattle.std.proofs.Common.{◌≡◌, Bool, true, false, cond, is_some, bytes_eq, ◌||◌, List, ℕ, Option, Some, None, IsSome, Ok, Err}
+use Rattle.std.proofs.Common.{refl, sym, ap, ◌∙◌}
 use mathlib.Core.Path.{fun_ext}
 use Rattle.std.proofs.lemmas.Map.Text.{is_eq-slice_cmp}
 use Rattle.std.specs.Cmp.Lexicographic.{bytes_decides}
@@ -13,9 +14,11 @@ use Rattle.sn_actions.specs.Plains.{apply, in_port, is_at_some, is_link, out_por
 use Rattle.sn_actions.specs.Same.{same_class}
 use Rattle.sn_names.specs.declared.arg.Arg.TheVariants.{Nothing}
 use Rattle.sn_actions.specs.declared.action.Action.{Action}
-use Rattle.sn_actions.specs.declared.action.Action.TheVariants.{Commit, FreeLink, LinkInput, LinkOutput, NewLink, ReconfigApp, StartApp, StopApp, UnlinkInput, UnlinkOutput}
+use Rattle.sn_actions.specs.declared.action.Action.TheVariants.{Commit, FreeLink, LinkInput, LinkOutput, NewLink, ReconfigApp}
+use Rattle.sn_actions.specs.declared.action.Action.TheVariants.{StartApp, StopApp, UnlinkInput, UnlinkOutput}
 use Rattle.sn_actions.specs.declared.fault.ActionFault.{ActionFault}
-use Rattle.sn_actions.specs.declared.fault.ActionFault.TheVariants.{AppThere, NoApp, NoLink, NotLinked, OtherClass, PortTaken, StillLinked}
+use Rattle.sn_actions.specs.declared.fault.ActionFault.TheVariants.{AppThere, NoApp, NoLink, NotLinked, OtherClass, PortTaken}
+use Rattle.sn_actions.specs.declared.fault.ActionFault.TheVariants.{StillLinked}
 use Rattle.sn_config.specs.declared.app_spec.AppSpec.{AppSpec}
 use Rattle.sn_names.specs.LinkOrder.{name_cmp, name_cmp_total}
 use Rattle.sn_names.specs.declared.class.Class.{Class}
@@ -102,7 +105,8 @@ pub record Starts (name : List ℕ) (spec : AppSpec) (plain after : PlainForm) :
 pub taken_start : (name : List ℕ) (spec : AppSpec) (plain after : PlainForm) → apply (StartApp name spec) plain ≡ Ok after
     → Starts name spec plain after
 taken_start name spec plain after e =
-    let h = fails (finmap.contains_key plain.apps name) (record plain { apps = finmap.insert plain.apps name spec }) after AppThere e in
+    let h = fails (finmap.contains_key plain.apps name) (record plain { apps = finmap.insert plain.apps name spec }) after
+    AppThere e in
     record {
       absent = ap (option_map (λ (s : AppSpec). s.class)) (is_none_of (finmap.get plain.apps name) h.failed);
       changes = record {
@@ -153,13 +157,16 @@ taken_reconfig name spec plain after e = by (finmap.get plain.apps name) refl e
     unset name other classes has = at (bytes_eq other name) refl
       where
         at : (b : Bool) → bytes_eq other name ≡ b → cond (bytes_eq other name) (Some spec.class) (classes other) ≡ classes other
-        at true is = ap (λ b. cond b (Some spec.class) (classes other)) is ∙ sym (ap classes ((bytes_decides other name).0 is) ∙ has)
+        at true is = ap (λ b. cond b (Some spec.class) (classes other)) is
+            ∙ sym (ap classes ((bytes_decides other name).0 is) ∙ has)
         at false is = ap (λ b. cond b (Some spec.class) (classes other)) is
 
-    by : (o : Option AppSpec) → finmap.get plain.apps name ≡ o → reconfigured o name spec plain ≡ Ok after → Renews name spec plain after
+    by : (o : Option AppSpec) → finmap.get plain.apps name ≡ o → reconfigured o name spec plain ≡ Ok after
+        → Renews name spec plain after
     by None has e = absurd cc
     by (Some before) has e =
-        let h = passes (same_class before.class spec.class) (record plain { apps = finmap.insert plain.apps name spec }) after OtherClass e in
+        let h = passes (same_class before.class spec.class) (record plain { apps = finmap.insert plain.apps name spec }) after
+        OtherClass e in
         let there : class_of plain name ≡ Some spec.class =
         ap (option_map (λ (s : AppSpec). s.class)) has ∙ ap Some (class_is before h.passed) in
         record {
@@ -198,7 +205,8 @@ taken_link_output : (link : LinkSpec) (plain after : PlainForm) → apply (LinkO
     → Changes plain after (class_of plain)
 taken_link_output link plain after e =
     let h = three (finset.contains plain.links link) (finmap.contains_key plain.apps link.from)
-    (finmap.contains_key plain.outs (out_port link)) (record plain { outs = finmap.insert plain.outs (out_port link) link }) after e in
+    (finmap.contains_key plain.outs (out_port link)) (record plain { outs = finmap.insert plain.outs (out_port link) link }) after
+    e in
     record { classed = ap class_of h; links = ap (λ (p : PlainForm). p.links) h }
 
 taken_link_input : (link : LinkSpec) (plain after : PlainForm) → apply (LinkInput link) plain ≡ Ok after
@@ -209,10 +217,12 @@ taken_link_input link plain after e =
     record { classed = ap class_of h; links = ap (λ (p : PlainForm). p.links) h }
 
 -- the links come or go, and the apps stay
-pub apps_free : (link : LinkSpec) (plain after : PlainForm) → apply (FreeLink link) plain ≡ Ok after → class_of after ≡ class_of plain
+pub apps_free : (link : LinkSpec) (plain after : PlainForm) → apply (FreeLink link) plain ≡ Ok after
+    → class_of after ≡ class_of plain
 apps_free link plain after e = ap class_of (taken_free link plain after e).is
 
-pub apps_new : (link : LinkSpec) (plain after : PlainForm) → apply (NewLink link) plain ≡ Ok after → class_of after ≡ class_of plain
+pub apps_new : (link : LinkSpec) (plain after : PlainForm) → apply (NewLink link) plain ≡ Ok after
+    → class_of after ≡ class_of plain
 apps_new link plain after e = ap class_of (taken_new link plain after e).is
 
 -- the same of each of these actions

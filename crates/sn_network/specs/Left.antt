@@ -1,6 +1,7 @@
 -- What a network has left: the records that its readers haven't passed, and the packets in its links.
 use Rattle.std.specs.FinMap as finmap
-use Rattle.std.specs.Prelude.{ℕ, zero, suc, ◌+◌, ◌-◌, ◌^◌, ◌≡◌, List, Option, Some, None, length, min, slice_get, sum_by, unwrap_or}
+use Rattle.std.specs.Prelude.{ℕ, zero, suc, ◌+◌, ◌-◌, ◌^◌, ◌≡◌, List, Option, Some, None, length, min, slice_get, sum_by}
+use Rattle.std.specs.Prelude.{unwrap_or}
 use Rattle.sn_app.specs.Apps.{AppState, readable}
 use Rattle.sn_app.specs.Desk.{Desk, roster_of}
 use Rattle.sn_link.specs.Link.{Line}

@@ -6,7 +6,8 @@ use Rattle.std.specs.Option.{option_map}
 use Rattle.sn_actions.specs.Consistency.{IsConsistent}
 use Rattle.sn_actions.specs.PlainForms.{PlainForm}
 use Rattle.sn_actions.specs.declared.action.Action.{Action}
-use Rattle.sn_actions.specs.declared.action.Action.TheVariants.{LinkInput, LinkOutput, NewLink, ReconfigApp, StartApp, UnlinkInput, UnlinkOutput}
+use Rattle.sn_actions.specs.declared.action.Action.TheVariants.{LinkInput, LinkOutput, NewLink, ReconfigApp, StartApp}
+use Rattle.sn_actions.specs.declared.action.Action.TheVariants.{UnlinkInput, UnlinkOutput}
 use Rattle.sn_app.specs.Calls.{HasLink, HasName}
 use Rattle.sn_app.specs.Starts.{ArgIsThere}
 use Rattle.sn_config.specs.ArgText.{IsArgOf}
@@ -69,8 +70,8 @@ AreWired places slots plain roster = (i : ℕ) (place : Place) → slice_get pla
     → Wired slots roster plain.ins place.name place.ins.items × Wired slots roster plain.outs place.name place.outs.items
 
 -- A network can breathe: it stands, and its ports and its orders are those of the plain form.
-pub record Breathes (places : List Place) (slots : List (Option Line)) (plain : PlainForm) (pulls pushes : List ℕ) (t : Tray) (u : Used)
-    : Type 0 where
+pub record Breathes (places : List Place) (slots : List (Option Line)) (plain : PlainForm) (pulls pushes : List ℕ) (t : Tray)
+    (u : Used) : Type 0 where
   pub stands : Stands places slots plain t u
   pub wired : AreWired places slots plain (roster_of t).links
   pub pulled : IsOrder places pulls (pull_order plain)
@@ -93,8 +94,8 @@ IsWiring (LinkInput link) = Unit {0}
 IsWiring action = ⊥
 
 -- An action was taken: the network is the one that the action makes, it stands, and also where it halted its links can be lost.
-pub record Took (action : Action) (plain after : PlainForm) (places new : List Place) (slots later : List (Option Line)) (t s : Tray)
-    (u v : Used) (r : Result Unit Halt) : Type 0 where
+pub record Took (action : Action) (plain after : PlainForm) (places new : List Place) (slots later : List (Option Line))
+    (t s : Tray) (u v : Used) (r : Result Unit Halt) : Type 0 where
   pub runs : Runs (acts action (net_of plain places u t)) (world t u slots) (world s v later) (kept_in places) (kept_in new)
       (stands_at (net_of after new v s) r)
   pub taken : OnOk r (apply action plain ≡ Ok after)

@@ -27,8 +27,8 @@ pub(crate) fn take_wiring<C: Ctx>(
     requires wiring { IsWiring action.now }
     requires stands { Stands _places.now _links.now.slots (plain_of plain.old) (C.tray _ctx.now) (C.used _ctx.now) }
     requires taken { IsOk (apply action.now (plain_of plain.old)) }
-    ensures took { Took action.now (plain_of plain.old) (plain_of plain.new) _places.now _places.now _links.now.slots _links.now.slots
-        (C.tray _ctx.now) (C.tray _ctx.now) (C.used _ctx.now) (C.used _ctx.now) result }
+    ensures took { Took action.now (plain_of plain.old) (plain_of plain.new) _places.now _places.now
+        _links.now.slots _links.now.slots (C.tray _ctx.now) (C.tray _ctx.now) (C.used _ctx.now) (C.used _ctx.now) result }
 {
     take_action(plain, action)
 }
@@ -45,8 +45,8 @@ pub(crate) fn take_free<C: Ctx>(
     requires action { action.now ≡ FreeLink link.now }
     requires stands { Stands _places.now links.old.slots (plain_of plain.old) (C.tray ctx.old) (C.used ctx.old) }
     requires taken { IsOk (apply action.now (plain_of plain.old)) }
-    ensures took { Took action.now (plain_of plain.old) (plain_of plain.new) _places.now _places.now links.old.slots links.new.slots
-        (C.tray ctx.old) (C.tray ctx.new) (C.used ctx.old) (C.used ctx.new) result }
+    ensures took { Took action.now (plain_of plain.old) (plain_of plain.new) _places.now _places.now
+        links.old.slots links.new.slots (C.tray ctx.old) (C.tray ctx.new) (C.used ctx.old) (C.used ctx.new) result }
     ensures lent { C.lender ctx.new ≡ C.lender ctx.old }
 {
     free_one(plain, links, ctx, action, link)
@@ -66,8 +66,8 @@ pub(crate) fn take_new<C: Ctx>(
     requires stands { Stands _places.now links.old.slots (plain_of plain.old) (C.tray ctx.now) (C.used ctx.now) }
     requires taken { IsOk (apply action.now (plain_of plain.old)) }
     requires found { Finds action.now (C.tray ctx.now) }
-    ensures took { Took action.now (plain_of plain.old) (plain_of plain.new) _places.now _places.now links.old.slots links.new.slots
-        (C.tray ctx.now) (C.tray ctx.now) (C.used ctx.now) (C.used ctx.now) result }
+    ensures took { Took action.now (plain_of plain.old) (plain_of plain.new) _places.now _places.now
+        links.old.slots links.new.slots (C.tray ctx.now) (C.tray ctx.now) (C.used ctx.now) (C.used ctx.now) result }
 {
     open_one(alloc, plain, links, ctx, action, link)
 }

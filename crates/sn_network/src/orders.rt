@@ -48,7 +48,8 @@ fn is_linked(plain: &Plain, link: &LinkSpec) -> bool
 
 /// The links that stand at an output port and at their input port.
 fn linked_specs(alloc: Global, plain: &Plain) -> Result<Vec<LinkSpec>, AllocError>
-    ensures { IfOk result (λ links. links.items ≡ filter (stands_linked (plain_of plain.now)) (values_of plain.now.outs.entries)) }
+    ensures { IfOk result (λ links.
+        links.items ≡ filter (stands_linked (plain_of plain.now)) (values_of plain.now.outs.entries)) }
 {
     let mut links = Vec::new(alloc);
     for link in plain.outs.values() {

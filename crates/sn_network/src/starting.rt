@@ -34,7 +34,8 @@ pub(crate) fn start_app<C: Ctx>(
     requires there { ArgIsThere spec.now.class spec.now.arg (C.tray ctx.old) }
     requires ready { CanRun places.old.items (C.tray ctx.old) }
     requires absent { class_in places.old.items name.now ≡ None }
-    ensures runs { (slots : List (Option Line)) → IsSound (world (C.tray ctx.old) (C.used ctx.old) slots) (kept_in places.old.items)
+    ensures runs { (slots : List (Option Line))
+        → IsSound (world (C.tray ctx.old) (C.used ctx.old) slots) (kept_in places.old.items)
         → Runs (changes (StartApp name.now spec.now) (states_in places.old.items (C.used ctx.old) (C.tray ctx.old)))
         (world (C.tray ctx.old) (C.used ctx.old) slots) (world (C.tray ctx.new) (C.used ctx.new) slots)
         (kept_in places.old.items) (kept_in places.new.items)
@@ -69,7 +70,8 @@ pub(crate) fn stop_app<C: Ctx>(
     requires ready { CanRun places.old.items (C.tray ctx.old) }
     requires once { (n : List ℕ) → named_in n places.old.items ≤ 1 }
     requires kept { AreKept (C.used ctx.old) (kept_in places.old.items) }
-    ensures runs { (slots : List (Option Line)) → IsSound (world (C.tray ctx.old) (C.used ctx.old) slots) (kept_in places.old.items)
+    ensures runs { (slots : List (Option Line))
+        → IsSound (world (C.tray ctx.old) (C.used ctx.old) slots) (kept_in places.old.items)
         → Runs (changes (StopApp name.now) (states_in places.old.items (C.used ctx.old) (C.tray ctx.old)))
         (world (C.tray ctx.old) (C.used ctx.old) slots) (world (C.tray ctx.new) (C.used ctx.new) slots)
         (kept_in places.old.items) (kept_in places.new.items)
@@ -97,7 +99,8 @@ pub(crate) fn reconfig_app<C: Ctx>(
     requires ready { CanRun places.old.items (C.tray ctx.old) }
     requires once { (n : List ℕ) → named_in n places.old.items ≤ 1 }
     requires kept { AreKept (C.used ctx.old) (kept_in places.old.items) }
-    ensures runs { (slots : List (Option Line)) → IsSound (world (C.tray ctx.old) (C.used ctx.old) slots) (kept_in places.old.items)
+    ensures runs { (slots : List (Option Line))
+        → IsSound (world (C.tray ctx.old) (C.used ctx.old) slots) (kept_in places.old.items)
         → Runs (changes (ReconfigApp name.now spec.now) (states_in places.old.items (C.used ctx.old) (C.tray ctx.old)))
         (world (C.tray ctx.old) (C.used ctx.old) slots) (world (C.tray ctx.new) (C.used ctx.new) slots)
         (kept_in places.old.items) (kept_in places.new.items)

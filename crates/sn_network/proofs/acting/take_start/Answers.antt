@@ -12,7 +12,8 @@ returns-in_err-take_action-clause-took g c =
 pub returns-clause-took : goal.returns-clause-took
 returns-clause-took g c =
     let done = c.start_app.ensures in
-    took_start c.args.action.now _ _ c.args.places.now.items c.start_app.new.places.items c.args._links.now.slots _ _ _ _ c.requires.stands
+    took_start c.args.action.now _ _ c.args.places.now.items c.start_app.new.places.items c.args._links.now.slots _ _ _ _
+    c.requires.stands
     c.in_ok-take_action.ensures.taken c.in_ok-take_action.ensures.consistent c.start_app.result
     c.args.app.0.now c.args.app.1.now c.requires.action
     (done.runs c.args._links.now.slots c.requires.stands.sound) done.once done.ready done.classes

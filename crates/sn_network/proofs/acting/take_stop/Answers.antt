@@ -12,7 +12,8 @@ returns-in_err-take_action-clause-took g c =
 pub returns-clause-took : goal.returns-clause-took
 returns-clause-took g c =
     let done = c.stop_app.ensures in
-    took_stop c.args.action.now _ _ c.args.places.now.items c.stop_app.new.places.items c.args._links.now.slots _ _ _ _ c.requires.stands
+    took_stop c.args.action.now _ _ c.args.places.now.items c.stop_app.new.places.items c.args._links.now.slots _ _ _ _
+    c.requires.stands
     c.in_ok-take_action.ensures.taken c.in_ok-take_action.ensures.consistent c.stop_app.result
     c.args.name.now c.requires.action
     (done.runs c.args._links.now.slots c.requires.stands.sound) done.once done.ready done.classes

@@ -10,14 +10,16 @@ call-requires-clause-outs g c =
     (c.requires.wired c.args.at c.index_mut.result.now (get_read _ _ _ c.requires.at c.index_mut.ensures.value)).1.linked
 
 pub call-requires-clause-sound : goal.call-requires-clause-sound
-call-requires-clause-sound g c = sound_own _ _ _ _ _ _ (get_read _ _ _ c.requires.at c.index_mut.ensures.value) c.requires.stands.sound
+call-requires-clause-sound g c =
+    sound_own _ _ _ _ _ _ (get_read _ _ _ c.requires.at c.index_mut.ensures.value) c.requires.stands.sound
 
 pub returns-clause-runs : goal.returns-clause-runs
 returns-clause-runs g c = λ name is.
     let here = get_read _ _ _ c.requires.at c.index_mut.ensures.value in
     let done = c.call.ensures in
     let wired = c.requires.wired c.args.at c.index_mut.result.now here in
-    runs_named c.args.places.now.items c.args.at c.index_mut.result.now c.call.new.self here done.name c.requires.stands.apps.once _ _ _ _
+    runs_named c.args.places.now.items c.args.at c.index_mut.result.now c.call.new.self here done.name c.requires.stands.apps.once
+    _ _ _ _
     c.args.links.now.slots c.call.new.links.slots c.requires.stands.sound c.args.verb (plain_of c.args._plain.now)
     c.index_mut.result.now.ins.items c.index_mut.result.now.outs.items c.call.result name is wired.0 wired.1 done.runs
 
@@ -25,7 +27,8 @@ pub returns-clause-stands : goal.returns-clause-stands
 returns-clause-stands g c =
     let here = get_read _ _ _ c.requires.at c.index_mut.ensures.value in
     let done = c.call.ensures in
-    stands_after c.args.places.now.items c.args.at c.index_mut.result.now c.call.new.self here done.name c.requires.stands.apps.once _ _ _ _
+    stands_after c.args.places.now.items c.args.at c.index_mut.result.now c.call.new.self here done.name
+    c.requires.stands.apps.once _ _ _ _
     c.args.links.now.slots c.call.new.links.slots c.requires.stands.sound (plain_of c.args._plain.now) c.call.result
     done.runs done.rows done.ready done.class c.requires.stands
 
@@ -33,7 +36,8 @@ pub returns-clause-wired : goal.returns-clause-wired
 returns-clause-wired g c =
     let here = get_read _ _ _ c.requires.at c.index_mut.ensures.value in
     let done = c.call.ensures in
-    wired_after c.args.places.now.items c.args.at c.index_mut.result.now c.call.new.self here done.name c.requires.stands.apps.once _ _ _ _
+    wired_after c.args.places.now.items c.args.at c.index_mut.result.now c.call.new.self here done.name
+    c.requires.stands.apps.once _ _ _ _
     c.args.links.now.slots c.call.new.links.slots c.requires.stands.sound (plain_of c.args._plain.now) c.call.result
     done.runs done.rows done.ready done.class done.ins done.outs c.requires.wired
 

@@ -40,5 +40,6 @@ returns-clause-runs g c =
 pub returns-clause-ready : goal.returns-clause-ready
 returns-clause-ready g c =
     breathes_committed c.args.network.now.places.items c.wire_all.new.places.items c.in_ok-wire_all.ensures.same _ _ _ _
-    c.deref.result.now c.deref-2.result.now _ _ c.deref.ensures.value c.deref-2.ensures.value c.requires.stands c.in_ok-wire_all.ensures.wired
+    c.deref.result.now c.deref-2.result.now _ _ c.deref.ensures.value c.deref-2.ensures.value c.requires.stands
+    c.in_ok-wire_all.ensures.wired
     c.in_ok-pulls.ensures c.in_ok-pushes.ensures

@@ -10,7 +10,8 @@ use Rattle.sn_network.proofs.left.unread_records.Goals as goal
 pub loop-name-init : goal.loop-name-init
 loop-name-init c =
     let all : List (List ℕ) = keys_of c.args.plain.now.apps.entries in
-    let begins : c.into_iter-name-iterator.result ≡ all = c.into_iter-name-iterator.ensures.into_iter_gives ∙ c.keys-name-items.ensures.rest in
+    let begins : c.into_iter-name-iterator.result ≡ all = c.into_iter-name-iterator.ensures.into_iter_gives
+    ∙ c.keys-name-items.ensures.rest in
     subst (λ (left : List (List ℕ)). Counts c.args.places.now c.args.captures.now 18446744073709551615 all left 0) (sym begins)
     (counts_first c.args.places.now c.args.captures.now 18446744073709551615 all
     (apps_stand c.args.places.now c.args.plain.now.apps.entries c.requires.classes))

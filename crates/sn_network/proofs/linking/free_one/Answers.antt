@@ -8,11 +8,13 @@ use Rattle.sn_network.proofs.linking.free_one.Goals as goal
 
 pub free_link-requires-clause-link : goal.free_link-requires-clause-link
 free_link-requires-clause-link g c =
-    free_listed c.args.links.now.slots _ c.args.link.now _ _ c.args.action.now c.in_ok-take_action.ensures.taken c.requires.links c.requires.action
+    free_listed c.args.links.now.slots _ c.args.link.now _ _ c.args.action.now c.in_ok-take_action.ensures.taken c.requires.links
+    c.requires.action
 
 pub free_link-requires-clause-here : goal.free_link-requires-clause-here
 free_link-requires-clause-here g c =
-    free_stands c.args.links.now.slots _ c.args.link.now _ _ c.args.action.now c.in_ok-take_action.ensures.taken c.requires.links c.requires.action
+    free_stands c.args.links.now.slots _ c.args.link.now _ _ c.args.action.now c.in_ok-take_action.ensures.taken c.requires.links
+    c.requires.action
 
 pub returns-in_err-take_action-clause-runs : goal.returns-in_err-take_action-clause-runs
 returns-in_err-take_action-clause-runs g c =
@@ -24,7 +26,8 @@ returns-clause-runs g c = runs_freeing c.args.link.now _ _ _ _ _ _ _ _ _ c.free_
 pub returns-clause-links : goal.returns-clause-links
 returns-clause-links g c =
     links_of_roster (roster_kept _ _ _ _ _ _ c.free_link.ensures.runs)
-    (free_links c.args.links.now.slots _ c.args.link.now _ _ c.args.action.now c.in_ok-take_action.ensures.taken c.requires.links c.requires.action
+    (free_links c.args.links.now.slots _ c.args.link.now _ _ c.args.action.now c.in_ok-take_action.ensures.taken c.requires.links
+    c.requires.action
     c.free_link.new.links.slots c.free_link.ensures.lines c.free_link.ensures.fits)
 
 pub returns-clause-fits : goal.returns-clause-fits

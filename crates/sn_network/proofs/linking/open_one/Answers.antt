@@ -7,7 +7,8 @@ use Rattle.sn_network.proofs.linking.open_one.Goals as goal
 
 pub open_link-requires-clause-free : goal.open_link-requires-clause-free
 open_link-requires-clause-free g c =
-    new_free c.args.links.now.slots _ c.args.link.now _ _ c.args.action.now c.in_ok-take_action.ensures.taken c.requires.links c.requires.action c.requires.listed
+    new_free c.args.links.now.slots _ c.args.link.now _ _ c.args.action.now c.in_ok-take_action.ensures.taken c.requires.links
+    c.requires.action c.requires.listed
 
 pub returns-in_err-take_action-clause-runs : goal.returns-in_err-take_action-clause-runs
 returns-in_err-take_action-clause-runs g c =
@@ -23,5 +24,6 @@ returns-clause-runs g c = runs_opening c.args.link.now _ _ _ _ _ _ _ _ _ (c.in_o
 
 pub returns-clause-links : goal.returns-clause-links
 returns-clause-links g c =
-    new_links c.args.links.now.slots _ c.args.link.now _ _ c.args.action.now c.in_ok-take_action.ensures.taken c.requires.links c.requires.action c.requires.listed
+    new_links c.args.links.now.slots _ c.args.link.now _ _ c.args.action.now c.in_ok-take_action.ensures.taken c.requires.links
+    c.requires.action c.requires.listed
     c.open_link.new.links.slots c.in_ok-open_link.ensures.lines c.in_ok-open_link.ensures.fits

@@ -8,7 +8,8 @@ use Rattle.sn_network.proofs.orders.pulls_in.Goals as goal
 
 pub places_of-requires : goal.places_of-requires
 places_of-requires c =
-    pulled_stand c.args.places.now c.args.plain.now.apps.entries c.in_ok-names.names.items c.deref-2.result.now c.deref-2.ensures.value
+    pulled_stand c.args.places.now c.args.plain.now.apps.entries c.in_ok-names.names.items c.deref-2.result.now
+    c.deref-2.ensures.value
     c.requires c.deref.result.now (c.deref.ensures.value ∙ c.in_ok-bringing.ensures) c.in_ok-names.ensures.among
 
 pub returns : goal.returns

@@ -19,7 +19,8 @@ returns g c =
     left_is (g.C.Ctx.tray c.args._ctx.now) (g.C.Ctx.used c.args._ctx.now) c.args.self.now.links.slots 18446744073709551615
     (unread_in (shown c.args.self.now (g.C.Ctx.used c.args._ctx.now) (g.C.Ctx.tray c.args._ctx.now)))
     c.saturating_add.result c.unread_records-unread.result c.queued_packets.result c.requires.stands.links.fits
-    (counted_shown c.deref.result.now c.args.self.now.places.items c.deref.ensures.value (g.C.Ctx.used c.args._ctx.now) (g.C.Ctx.tray c.args._ctx.now) c.args.captures.now
+    (counted_shown c.deref.result.now c.args.self.now.places.items c.deref.ensures.value (g.C.Ctx.used c.args._ctx.now)
+    (g.C.Ctx.tray c.args._ctx.now) c.args.captures.now
     (finmap.keys (plain_of c.args.self.now.plain).apps) 18446744073709551615 c.unread_records-unread.result c.requires.captures
     c.unread_records-unread.ensures)
     c.queued_packets.ensures c.saturating_add.ensures

@@ -8,13 +8,15 @@ use Rattle.sn_network.proofs.network.Network.pull.Goals as goal
 pub call_at-requires-clause-at : goal.call_at-requires-clause-at
 call_at-requires-clause-at g c =
     name_within _ _ _
-    (order_at _ _ (pull_order (plain_of c.args.self.now.plain)) c.args.i _ c.requires.ready.pulled c.requires.within c.index-at.ensures)
+    (order_at _ _ (pull_order (plain_of c.args.self.now.plain)) c.args.i _ c.requires.ready.pulled c.requires.within
+    c.index-at.ensures)
 
 pub returns-clause-runs : goal.returns-clause-runs
 unfolding pull_app
 returns-clause-runs g c =
     c.call_at.ensures.runs _
-    (order_at _ _ (pull_order (plain_of c.args.self.now.plain)) c.args.i _ c.requires.ready.pulled c.requires.within c.index-at.ensures)
+    (order_at _ _ (pull_order (plain_of c.args.self.now.plain)) c.args.i _ c.requires.ready.pulled c.requires.within
+    c.index-at.ensures)
 
 pub returns-clause-ready : goal.returns-clause-ready
 returns-clause-ready g c =
@@ -26,5 +28,6 @@ pub returns-clause-lost : goal.returns-clause-lost
 returns-clause-lost g c =
     fits_after c.args.self.now.links.slots _ _ _ _ _
     (c.call_at.ensures.runs _
-    (order_at _ _ (pull_order (plain_of c.args.self.now.plain)) c.args.i _ c.requires.ready.pulled c.requires.within c.index-at.ensures))
+    (order_at _ _ (pull_order (plain_of c.args.self.now.plain)) c.args.i _ c.requires.ready.pulled c.requires.within
+    c.index-at.ensures))
     c.call_at.ensures.rows c.requires.ready.stands.links.fits
