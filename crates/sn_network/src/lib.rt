@@ -25,6 +25,8 @@ mod orders;
 mod place;
 mod ports;
 mod starting;
+#[cfg(test)]
+mod tests;
 mod verb;
 
 pub use network::Network;
