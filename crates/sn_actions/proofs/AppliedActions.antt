@@ -35,7 +35,7 @@ append_by : (r : Result PlainForm ActionFault) (xs ys : List Action) (q : PlainF
 append_by (Ok x) xs ys q more e = more x e
 append_by (Err f) xs ys q more e = cc
 
-apply_append : (xs ys : List Action) (p q : PlainForm) → apply_all xs p ≡ Ok q → apply_all (xs ++ ys) p ≡ apply_all ys q
+pub apply_append : (xs ys : List Action) (p q : PlainForm) → apply_all xs p ≡ Ok q → apply_all (xs ++ ys) p ≡ apply_all ys q
 apply_append [] ys p q e = let same : p ≡ q = cc in ap (apply_all ys) same
 apply_append (a ∷ xs) ys p q e = append_by (apply a p) xs ys q (λ x d. apply_append xs ys x q d) e
 

@@ -1,6 +1,6 @@
 pub mod Readings
-mod Places
-mod Slots
+pub mod Places
+pub mod Slots
 pub mod Moving
 mod Sending
 pub mod Running
@@ -13,16 +13,16 @@ pub mod Naming
 pub mod AtPorts
 pub mod Leaving
 pub mod LaneCalls
-mod Playing
-mod Gaining
-mod OtherEnds
-mod RowReadings
-mod DetachReadings
-mod Repeating
+pub mod Playing
+pub mod Gaining
+pub mod OtherEnds
+pub mod RowReadings
+pub mod DetachReadings
+pub mod Repeating
 mod DetachPlays
 mod LanePlays
 mod BenchFields
-mod OnTrays
-mod Filing
-mod Claiming
+pub mod OnTrays
+pub mod Filing
+pub mod Claiming
 mod Examples

@@ -15,7 +15,7 @@
 //! - `bench_lanes`: what it does at the ends of its interlinks
 //! - `tape`: the entries of a bench
 //! - `lanes`: the ends of its interlinks
-//! - `outputs`: its files
+//! - `outputs`: files that apps write
 //! - `roster_rows`: the rows of names
 //! - `peeks`: what an entry tells a call that may read it
 //! - `arrivals`: packets that come into it
@@ -51,6 +51,8 @@ pub use end_state::EndState;
 pub use halt::Halt;
 pub use handler::{Handler, handle_next, handle_some};
 pub use linked::{linked_input, linked_out, linked_output};
+pub use outputs::{Output, no_files};
 pub use ports::Ports;
+pub use roster_rows::{file_row, link_spec_row, name_row};
 pub use sn_core::Side;
 pub use verbs::{send, take};

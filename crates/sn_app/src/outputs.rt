@@ -1,4 +1,4 @@
-//! A file that an app writes, as a bench has it.
+//! A file that an app writes, kept in memory.
 ghost use Rattle.std.specs.Prelude.{◌≡◌, ◌≤◌, IfOk, IsSome, None, OnErr, OnOk, Some, length, option_map, replicate};
 ghost use Rattle.sn_packet.specs.Packet.{most_bytes};
 ghost use Rattle.sn_pcap.specs.Written.{written_header};
@@ -14,9 +14,10 @@ const MOST_BYTES: usize = 33_554_432;
 /// How many bytes a record's header takes.
 const RECORD_HEADER: usize = 16;
 
-/// A file's bytes, or none where it was never started.
+/// A file that an app writes: its bytes, or none where it was never started. It starts with a header, and each packet adds a
+/// record, in the format of libpcap's files of version 2.4.
 #[derive(Drop)]
-pub(crate) struct Output {
+pub struct Output {
     bytes: Option<Vec<u8>>,
 }
 
@@ -30,14 +31,14 @@ impl Model for Output {
 
 impl Output {
     /// A file that was never started.
-    pub(crate) fn never_started() -> Output
+    pub fn never_started() -> Output
         ensures { result ≡ None }
     {
         Output { bytes: None }
     }
 
     /// Its bytes, None exactly where it was never started.
-    pub(crate) fn bytes(&self) -> Option<&[u8]>
+    pub fn bytes(&self) -> Option<&[u8]>
         ensures { option_map (λ bytes. bytes.now) result ≡ self.now }
     {
         match &self.bytes {
@@ -46,8 +47,18 @@ impl Output {
         }
     }
 
-    /// Empties it to its header. Without memory it stays as it was.
-    pub(crate) fn start(&mut self, alloc: Global) -> Result<(), AllocError>
+    /// Its bytes, in the memory that they were written to. None exactly where it was never started.
+    pub fn into_bytes(self) -> Option<Vec<u8>>
+        ensures { option_map (λ bytes. bytes.items) result ≡ self }
+    {
+        self.bytes
+    }
+
+    /// Empties it to its header.
+    ///
+    /// # Errors
+    /// Want of memory, and it stays as it was.
+    pub fn start(&mut self, alloc: Global) -> Result<(), AllocError>
         ensures begun { OnOk result (self.new ≡ Some written_header) }
         ensures refused { OnErr result (self.new ≡ self.old) }
     {
@@ -57,9 +68,12 @@ impl Output {
         Ok(())
     }
 
-    /// Adds a packet's record. False exactly where the file would have too many bytes. Else, and without memory, it stays as
-    /// it was.
-    pub(crate) fn append(&mut self, payload: &[u8]) -> Result<bool, AllocError>
+    /// Adds the record of a packet with these bytes. False, with the file unchanged, exactly where it would pass 33,554,432
+    /// bytes.
+    ///
+    /// # Errors
+    /// Want of memory, and it stays as it was.
+    pub fn append(&mut self, payload: &[u8]) -> Result<bool, AllocError>
         requires started { IsSome self.old }
         requires len { length payload.now ≤ most_bytes }
         ensures fits { IfOk result (λ added. added ≡ fits_into self.old payload.now) }
@@ -78,7 +92,10 @@ impl Output {
 }
 
 /// So many files that were never started.
-pub(crate) fn no_files(alloc: Global, count: usize) -> Result<Vec<Output>, AllocError>
+///
+/// # Errors
+/// Want of memory.
+pub fn no_files(alloc: Global, count: usize) -> Result<Vec<Output>, AllocError>
     ensures { IfOk result (λ files. files.items ≡ replicate count None) }
 {
     let mut files = Vec::with_capacity(alloc, count)?;

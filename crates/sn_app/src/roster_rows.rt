@@ -41,8 +41,8 @@ fn link_place(links: &[LinkSpec], link: &LinkSpec) -> Option<usize>
     links.iter().position(|other| are_same(link, other))
 }
 
-/// The row of an app's or an interlink's name.
-pub(crate) fn name_row(names: &[Name], name: &Name) -> u32
+/// The row of an app's or an interlink's name, which is one of these names: the first place where it stands, counted from 0.
+pub fn name_row(names: &[Name], name: &Name) -> u32
     requires few { length names.now < 2 ^ 32 }
     requires there { HasName names.now name.now }
     ensures { result ≡ row_of names.now name.now }
@@ -53,8 +53,8 @@ pub(crate) fn name_row(names: &[Name], name: &Name) -> u32
     }
 }
 
-/// The row of a file's name.
-pub(crate) fn file_row(names: &[FileName], name: &FileName) -> u32
+/// The row of a file's name, which is one of these names: the first place where it stands, counted from 0.
+pub fn file_row(names: &[FileName], name: &FileName) -> u32
     requires few { length names.now < 2 ^ 32 }
     requires there { HasName names.now name.now }
     ensures { result ≡ row_of names.now name.now }
@@ -65,8 +65,8 @@ pub(crate) fn file_row(names: &[FileName], name: &FileName) -> u32
     }
 }
 
-/// The row of a link.
-pub(crate) fn link_spec_row(links: &[LinkSpec], link: &LinkSpec) -> u32
+/// The row of a link, which is one of these links: the first place where one with its four names stands, counted from 0.
+pub fn link_spec_row(links: &[LinkSpec], link: &LinkSpec) -> u32
     requires few { length links.now < 2 ^ 32 }
     requires there { HasLink links.now link.now }
     ensures { result ≡ row_of_link links.now link.now }

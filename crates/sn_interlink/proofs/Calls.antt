@@ -15,7 +15,7 @@ use Rattle.sn_interlink.specs.declared.view.View.TheVariants.{One}
 use Rattle.sn_interlink.specs.Course.{unit, came_word, is_down}
 use Rattle.sn_interlink.specs.Rule.{Lying, lies_in, Rule}
 use Rattle.sn_interlink.specs.Moves.{Half, idle, load_of, out_of}
-use Rattle.sn_interlink.specs.Plays.{known_of, LookPlay, AttachPlay, DetachPlay, ResetPlay}
+use Rattle.sn_interlink.specs.Plays.{known_of, Finds, FindsWord, LookPlay, AttachPlay, DetachPlay, ResetPlay}
 use Rattle.sn_interlink.specs.Ends.{half_by, reach_by, Fields, fields, hand_by, FieldsFit, IsEnd}
 use Rattle.sn_interlink.proofs.StateSteps.{look_steps, attach_steps, detach_steps, reset_steps}
 use Rattle.sn_interlink.proofs.Steps.{allow, Steps}
@@ -37,6 +37,10 @@ allowed slots id f m half i g tells inv half_is steps =
     subst (λ u. Allows Rule slots id u i g (tells u)) (sym me) (allow slots id f.side v half i g (tells (One f.side v, out_of v.hand half)) steps)
 
 -- THE STATE WORD
+
+-- the word that an end found is as its fields say
+pub found_now : (f : Fields) (m : Me Lying View) (n : ℕ) → IsEnd f m → FindsWord m.0 n → Finds f.side f.state n
+found_now f m n inv finds = subst (λ st. Finds f.side st n) inv.fit.state (finds f.side (known_of m.0) (ap (λ x. x.0) inv.me))
 
 pub look_allowed : (slots id : ℕ) (f : Fields) (m : Me Lying View) → IsEnd f m → Allows Rule slots id m 0 (λ n. n) (LookPlay (step slots 0 0 0 none) m)
 look_allowed slots id f m inv =

@@ -1,5 +1,5 @@
 -- The steps on the state word keep the rule, and tell what they should.
-use Rattle.std.proofs.Common.{◌≡◌, ◌≢◌, ◌⊎◌, inl, inr, ℕ, ◌+◌, ◌%◌, ◌^◌, Bool, true, false, eqb, eq-eqb, ne_eqb, Option, [], ◌∷◌, ◌++◌, Some, None, refl, sym, ap, ap₂, ◌∙◌, subst}
+use Rattle.std.proofs.Common.{arith, ◌≡◌, ◌≢◌, ◌⊎◌, inl, inr, ℕ, ◌+◌, ◌%◌, ◌^◌, Bool, true, false, eqb, eq-eqb, ne_eqb, Option, [], ◌∷◌, ◌++◌, Some, None, refl, sym, ap, ap₂, ◌∙◌, subst}
 use Rattle.std.specs.Prelude.{slice_set, slice_index}
 use mathlib.Core.Option.{none}
 use prog.Atomic.{either}
@@ -12,13 +12,40 @@ use Rattle.sn_interlink.specs.declared.view.Hand.TheVariants.{Reading}
 use Rattle.sn_interlink.specs.declared.view.Known.{Known}
 use Rattle.sn_interlink.specs.declared.view.View.{View}
 use Rattle.sn_interlink.specs.declared.view.View.TheVariants.{One}
-use Rattle.sn_interlink.specs.Course.{absent, up, closing, Course, other, mine, with_status, is_up, word_of, state_of, field_in, unit, came_word, is_down, leaves, left_state, Deed, attaches, misses, detaches, resets, after, Enabled, History, course, Sane, entries_of}
+use Rattle.sn_interlink.specs.Course.{Status, absent, up, gone, closing, Course, other, mine, with_status, is_up, word_of, state_of, field_in, unit, came_word, is_down, leaves, left_state, Deed, attaches, misses, detaches, resets, after, Enabled, History, course, Sane, entries_of}
 use Rattle.sn_interlink.specs.Rule.{Lying, MayRead, HandOk, PlaceOk, Fits, Ends, of_side, with_side, parted, words_of, Meets}
 use Rattle.sn_interlink.specs.Moves.{Half, idle, out_of, stayed, Left}
-use Rattle.sn_interlink.specs.Plays.{look_deed_as, look_deed, looked_at, kept_place, came_up, missed, place_left, went, freed, LookPlay, AttachPlay, DetachPlay, ResetPlay}
-use Rattle.sn_interlink.proofs.Machine.{sane, other_up, came_is, gone_is, down_is, shut_away}
+use Rattle.sn_interlink.specs.Plays.{look_deed_as, look_deed, looked_at, kept_place, came_up, missed, place_left, went, freed, is_up_state, Finds, FindsWord, LookPlay, AttachPlay, DetachPlay, ResetPlay}
+use Rattle.sn_interlink.proofs.Machine.{sane, field_small, field_of_side, is_one, other_up, came_is, gone_is, down_is, shut_away}
 use Rattle.sn_interlink.proofs.Effects.{own_fits, kind, kind_still, back_as_it_went}
-use Rattle.sn_interlink.proofs.Steps.{Turns, Rests, Steps, log_more, up_if, closing_if, away_if, mine_with, mine_freed, puts_with, read_with, words_with, left_of, word_at}
+use Rattle.sn_interlink.proofs.Steps.{one_side, one_known, Turns, Rests, Steps, log_more, up_if, closing_if, away_if, mine_with, mine_freed, puts_with, read_with, words_with, left_of, word_at}
+
+-- the state word that is found
+up_status : (status : Status) → is_up status ≡ is_up_state (state_of status)
+up_status absent = refl
+up_status up = refl
+up_status gone = refl
+up_status closing = refl
+
+found_at : (s : State Lying View) (hist : History) (k : Ends) (side : Side) (n : ℕ) → Meets s hist parted k → slice_index s.words 0 ≡ n
+    → Finds side (of_side side k).state n
+found_at s hist k side n m is_n =
+    let c : Course = course hist in
+    let found : n ≡ word_of c = sym is_n ∙ word_at s hist parted k m in
+    record {
+      tx = omega (arith, found, field_small c.tx, field_small c.rx);
+      rx = omega (arith, found, field_small c.tx, field_small c.rx);
+      own = ap (λ x. eqb (field_in side x) 1) found ∙ ap (λ x. eqb x 1) (field_of_side side c) ∙ is_one (mine side c)
+          ∙ up_status (mine side c) ∙ ap is_up_state (sym (own_fits s hist parted k side m).state);
+    }
+
+found_by : (side : Side) (v : Known) (n : ℕ) → Finds side v.state n → FindsWord (One side v) n
+found_by side v n finds other w e =
+    subst (λ (x : Side × Known). Finds x.0 x.1.state n) (λ j. (ap one_side e j, ap (one_known v) e j)) finds
+
+found_known : (s : State Lying View) (hist : History) (k : Ends) (side : Side) (v : Known) (n : ℕ) → Meets s hist parted k → of_side side k ≡ v
+    → slice_index s.words 0 ≡ n → FindsWord (One side v) n
+found_known s hist k side v n m is is_n = found_by side v n (subst (λ (x : Known). Finds side x.state n) is (found_at s hist k side n m is_n))
 
 -- a load of the state word
 pub look_same : (b : Bool) (side : Side) (n : ℕ) (c : Course) → after side (look_deed_as b n) c ≡ c
@@ -65,7 +92,7 @@ look_steps slots side v half s hist k m is bound =
       d = d;
       w = w;
       left = look_left s hist k side half n m refl;
-      told = ap₂ (λ x h. (One side (looked_at n x), out_of h half)) is (ap (λ x. x.hand) is);
+      told = (ap₂ (λ x h. (One side (looked_at n x), out_of h half)) is (ap (λ x. x.hand) is), found_known s hist k side v n m is refl);
     })
 
 -- positions after a change of status
@@ -132,7 +159,7 @@ attach_steps slots side v seen out open_yet s hist k m is bound =
       d = attaches n;
       w = came_up side n u;
       left = subst (λ x. Left s hist k side (attaches n) u idle (came_up side n u) 0 (came_word side x)) e (attach_left s hist k side n m (ap (λ x. x.state) is ∙ out) refl (ap is_down e ∙ open_yet));
-      told = (λ _. ap (λ x. (One side (came_up side n x), [])) is, λ differ. absurd (differ e));
+      told = (λ _. ap (λ x. (One side (came_up side n x), [])) is, λ differ. absurd (differ e), found_known s hist k side v n m is refl);
     })
 
     miss : n ≢ seen → Turns s hist k side idle 0 n tells ⊎ Rests s hist k side idle 0 n tells
@@ -140,7 +167,7 @@ attach_steps slots side v seen out open_yet s hist k m is bound =
       d = misses seen n;
       w = missed seen n u;
       left = miss_left s hist k side seen n m (ap (λ x. x.state) is ∙ out) refl open_yet differ;
-      told = (λ e. absurd (differ e), λ _. ap₂ (λ x h. (One side (missed seen n x), out_of h idle)) is (ap (λ x. x.hand) is));
+      told = (λ e. absurd (differ e), λ _. ap₂ (λ x h. (One side (missed seen n x), out_of h idle)) is (ap (λ x. x.hand) is), found_known s hist k side v n m is refl);
     })
 
 -- the end goes
@@ -190,7 +217,7 @@ detach_steps slots side v is_state s hist k m is bound =
       d = detaches n;
       w = went side n (of_side side k);
       left = detach_left s hist k side n m (ap (λ x. x.state) is ∙ is_state) refl;
-      told = ap (λ x. (One side (went side n x), [])) is;
+      told = (ap (λ x. (One side (went side n x), [])) is, found_known s hist k side v n m is refl);
     })
 
 -- what a reading hand that has no position left says of a closer

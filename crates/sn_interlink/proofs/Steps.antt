@@ -27,13 +27,13 @@ pub record Seated (s : State Lying View) (id : ℕ) (side : Side) (v : Known) : 
   pub id_is : id ≡ seat_of side
   pub known : of_side side k ≡ v
 
-abbrev one_side : View → Side
+abbrev pub one_side : View → Side
 one_side (Fresh a b) = Tx
 one_side (One side v) = side
 one_side (Both a b) = Tx
 one_side Spent = Tx
 
-abbrev one_known : Known → View → Known
+abbrev pub one_known : Known → View → Known
 one_known d (Fresh a b) = d
 one_known d (One side v) = v
 one_known d (Both a b) = d

@@ -26,3 +26,12 @@ DetachStep old (Closer word) new = (other_is_up old word ≡ false) × (new ≡ 
 abbrev pub DrainStep : LaneEnd → Option PacketState → LaneEnd → Type 0
 DrainStep old None new = (old.reach ≡ Some 0) × (new ≡ old)
 DrainStep old (Some packet) new = (0 < reach_of old) × (new ≡ drains_out packet old)
+
+-- the state word that was found at an attaching, and at a detaching
+abbrev pub found_in : ℕ → Attached → ℕ
+found_in seen Up = seen
+found_in seen (Again found) = found
+
+abbrev pub left_word : Detached → ℕ
+left_word (Other word) = word
+left_word (Closer word) = word

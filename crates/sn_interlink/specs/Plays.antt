@@ -1,5 +1,5 @@
 -- What an end knows after each step, and what the step tells its caller.
-use Rattle.std.specs.Prelude.{◌≡◌, ◌≢◌, ◌≤◌, ◌<◌, ℕ, ◌+◌, ◌-◌, ◌^◌, min, Bool, true, false, [], ◌∷◌, ◌++◌, Option, Some, None, IsSome, unwrap_or}
+use Rattle.std.specs.Prelude.{◌≡◌, ◌≢◌, ◌≤◌, ◌<◌, ℕ, ◌+◌, ◌-◌, ◌/◌, ◌%◌, ◌^◌, ◌==◌, min, Bool, true, false, [], ◌∷◌, ◌++◌, Option, Some, None, IsSome, unwrap_or}
 use Rattle.atomic_table.specs.Table.{Me, Step}
 use Rattle.sn_core.specs.declared.events.Side.{Side}
 use Rattle.sn_core.specs.declared.events.Side.TheVariants.{Tx, Rx}
@@ -11,7 +11,7 @@ use Rattle.sn_interlink.specs.declared.view.Hand.TheVariants.{Nothing, Writing, 
 use Rattle.sn_interlink.specs.declared.view.Known.{Known}
 use Rattle.sn_interlink.specs.declared.view.View.{View}
 use Rattle.sn_interlink.specs.declared.view.View.TheVariants.{Fresh, One, Both, Spent}
-use Rattle.sn_interlink.specs.Course.{state_after, is_down, Deed, looks, misses, entries_of}
+use Rattle.sn_interlink.specs.Course.{field_in, state_after, is_down, Deed, looks, misses, entries_of}
 use Rattle.sn_interlink.specs.Rule.{Lying, new_end, first_of, bound_of, lies_in}
 use Rattle.sn_interlink.specs.Moves.{idle, out_of, load_of}
 
@@ -143,16 +143,32 @@ turned_to f m = (after_view f m.0, out_of (known_of (after_view f m.0)).hand idl
 abbrev pub told : (Side → Known → Known) → Me Lying View → Me Lying View
 told f m = (after_view f m.0, m.1)
 
+-- an end is up
+abbrev pub is_up_state : EndState → Bool
+is_up_state Out = false
+is_up_state Up = true
+is_up_state Closing = false
+
+-- a state word as an end finds it: each field is below 3, and the end's own is 1 exactly where the end is up
+pub record Finds (side : Side) (state : EndState) (word : ℕ) : Type 0 where
+  pub tx : word / 4 < 3
+  pub rx : word % 4 < 3
+  pub own : (field_in side word == 1) ≡ is_up_state state
+
+-- the seat of an end found this state word
+abbrev pub FindsWord : View → ℕ → Type 0
+FindsWord view n = (side : Side) (v : Known) → view ≡ One side v → Finds side v.state n
+
 abbrev pub LookPlay : Tells
-LookPlay st m n m' = m' ≡ told (λ side. looked_at n) m
+LookPlay st m n m' = (m' ≡ told (λ side. looked_at n) m) × FindsWord m.0 n
 
 abbrev pub AttachPlay : Tells
 AttachPlay st m n m' =
     (n ≡ st.first → m' ≡ turned_to (λ side. came_up side n) m)
-    × (n ≢ st.first → m' ≡ told (λ side. missed st.first n) m)
+    × (n ≢ st.first → m' ≡ told (λ side. missed st.first n) m) × FindsWord m.0 n
 
 abbrev pub DetachPlay : Tells
-DetachPlay st m n m' = m' ≡ turned_to (λ side. went side n) m
+DetachPlay st m n m' = (m' ≡ turned_to (λ side. went side n) m) × FindsWord m.0 n
 
 abbrev pub ResetPlay : Tells
 ResetPlay st m n m' = m' ≡ turned_to freed m

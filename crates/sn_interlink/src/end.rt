@@ -5,7 +5,8 @@
 //! - `taking`: what it does as a receiver, and as the one that empties the ring
 ghost use Rattle.std.specs.Prelude.{◌≡◌, ◌||◌, [], Some, true, false};
 ghost use Rattle.sn_core.specs.declared.events.Side.TheVariants.{Rx};
-ghost use Rattle.sn_interlink.specs.Answers.{AttachStep, DetachStep};
+ghost use Rattle.sn_interlink.specs.Answers.{AttachStep, DetachStep, found_in, left_word};
+ghost use Rattle.sn_interlink.specs.Plays.{Finds};
 ghost use Rattle.sn_interlink.specs.Closing.{IsSeatOf};
 ghost use Rattle.sn_interlink.specs.Course.{is_down};
 ghost use Rattle.sn_interlink.specs.Ends.{is_tx, looks_at, new_lane_end, part_of, sets_free, syncs_at};
@@ -113,6 +114,7 @@ impl End {
 
     pub(crate) fn look_state(&mut self, lane: &Interlink) -> u64
         requires lane { self.old.lane ≡ lane.now }
+        ensures word { Finds self.old.side self.old.state result }
         ensures step { self.new ≡ looks_at result self.old }
     {
         lane.table.shared.load::<LooksAt>(&mut self.seat, STATE)
@@ -123,6 +125,7 @@ impl End {
         requires out { self.old.state ≡ Out }
         requires seen { self.old.seen ≡ Some seen }
         requires open_yet { is_down seen ≡ false }
+        ensures word { Finds self.old.side self.old.state (found_in seen result) }
         ensures step { AttachStep seen self.old result self.new }
     {
         let new = up_word(self.side, seen);
@@ -143,6 +146,7 @@ impl End {
         requires up { self.old.state ≡ Up }
         requires idle { self.old.half ≡ false }
         requires synced { (is_tx self.old.side || self.old.synced) ≡ true }
+        ensures word { Finds self.old.side self.old.state (left_word result) }
         ensures step { DetachStep self.old result self.new }
     {
         let added = unit_of(self.side);

@@ -4,9 +4,9 @@ ghost use Rattle.std.specs.Prelude.{◌≡◌, ◌<◌, ◌-◌, true, false, So
 ghost use Rattle.sn_core.specs.declared.events.Side.TheVariants.{Rx};
 ghost use Rattle.sn_interlink.specs.declared.view.EndState.TheVariants.{Out, Up, Closing};
 ghost use Rattle.sn_interlink.specs.Course.{is_down};
-ghost use Rattle.sn_interlink.specs.Plays.{InRing};
+ghost use Rattle.sn_interlink.specs.Plays.{Finds, InRing};
 ghost use Rattle.sn_interlink.specs.Ends.{can_look, reach_of, looks_at, sets_free, syncs_at, sees_packets, takes_out, releases};
-ghost use Rattle.sn_interlink.specs.Answers.{AttachStep, DetachStep, DrainStep};
+ghost use Rattle.sn_interlink.specs.Answers.{AttachStep, DetachStep, DrainStep, found_in, left_word};
 
 use crate::answers::{Attached, Detached};
 use crate::end::End;
@@ -80,6 +80,7 @@ impl RxEnd {
     /// The state word, as one load finds it.
     pub fn look_state(&mut self, lane: &Interlink) -> u64
         requires lane { self.old.lane ≡ lane.now }
+        ensures word { Finds self.old.side self.old.state result }
         ensures step { self.new ≡ looks_at result self.old }
     {
         self.end.look_state(lane)
@@ -92,6 +93,7 @@ impl RxEnd {
         requires seen { self.old.seen ≡ Some seen }
         requires open_yet { is_down seen ≡ false }
         ensures side { self.old.side ≡ Rx }
+        ensures word { Finds self.old.side self.old.state (found_in seen result) }
         ensures step { AttachStep seen self.old result self.new }
     {
         self.end.attach(lane, seen)
@@ -105,6 +107,7 @@ impl RxEnd {
         requires idle { self.old.half ≡ false }
         requires synced { self.old.synced ≡ true }
         ensures side { self.old.side ≡ Rx }
+        ensures word { Finds self.old.side self.old.state (left_word result) }
         ensures step { DetachStep self.old result self.new }
     {
         self.end.detach(lane)

@@ -5,10 +5,10 @@ ghost use Rattle.sn_core.specs.declared.events.Side.TheVariants.{Tx};
 ghost use Rattle.sn_packet.specs.Packet.{is_worn};
 ghost use Rattle.sn_interlink.specs.declared.view.EndState.TheVariants.{Out, Up, Closing};
 ghost use Rattle.sn_interlink.specs.Course.{is_down};
-ghost use Rattle.sn_interlink.specs.Plays.{room_by, InRing};
+ghost use Rattle.sn_interlink.specs.Plays.{Finds, room_by, InRing};
 ghost use Rattle.sn_interlink.specs.Ends.{is_on_state, reach_of, own_place, looks_at, sets_free, sees_room_as, lays};
 ghost use Rattle.sn_interlink.specs.Ends.{takes_back, publishes, releases};
-ghost use Rattle.sn_interlink.specs.Answers.{AttachStep, DetachStep, DrainStep};
+ghost use Rattle.sn_interlink.specs.Answers.{AttachStep, DetachStep, DrainStep, found_in, left_word};
 
 use crate::answers::{Attached, Detached};
 use crate::end::End;
@@ -75,6 +75,7 @@ impl TxEnd {
     /// The state word, as one load finds it.
     pub fn look_state(&mut self, lane: &Interlink) -> u64
         requires lane { self.old.lane ≡ lane.now }
+        ensures word { Finds self.old.side self.old.state result }
         ensures step { self.new ≡ looks_at result self.old }
     {
         self.end.look_state(lane)
@@ -87,6 +88,7 @@ impl TxEnd {
         requires seen { self.old.seen ≡ Some seen }
         requires open_yet { is_down seen ≡ false }
         ensures side { self.old.side ≡ Tx }
+        ensures word { Finds self.old.side self.old.state (found_in seen result) }
         ensures step { AttachStep seen self.old result self.new }
     {
         self.end.attach(lane, seen)
@@ -99,6 +101,7 @@ impl TxEnd {
         requires up { self.old.state ≡ Up }
         requires idle { self.old.half ≡ false }
         ensures side { self.old.side ≡ Tx }
+        ensures word { Finds self.old.side self.old.state (left_word result) }
         ensures step { DetachStep self.old result self.new }
     {
         self.end.detach(lane)
