@@ -50,6 +50,14 @@ impl Model for Bench {
         IsBench (bench_of b.hold b.tape b.lanes.items b.counters b.files.items b.roster b.captures.items b.bare) };
 }
 
+/// What a bench leaves: its journal, what its apps and links have counted, and its files by their rows.
+#[derive(Drop)]
+pub struct BenchParts {
+    pub journal: Journal,
+    pub counters: Counters,
+    pub files: Vec<Output>,
+}
+
 /// A hold of the packets of the numbers below this one, all free at turn 0, the last one freed last.
 fn free_packets(alloc: Global, frees: u32) -> Result<Hold, AllocError>
     requires { frees ≤ most_packets }
@@ -159,6 +167,20 @@ impl Bench {
         match self.files.get(file as usize) {
             None => None,
             Some(output) => output.bytes(),
+        }
+    }
+
+    /// Its journal, its counters and its files, each in the memory in which it lies. The rest is dropped.
+    pub fn into_parts(self) -> BenchParts
+        ensures journal { result.journal.entries ≡ self.past }
+        ensures counters { result.counters ≡ self.counters }
+        ensures files { result.files.items ≡ self.files }
+        ensures rows { length result.files.items ≡ length self.roster.files }
+    {
+        BenchParts {
+            journal: self.tape.into_journal(),
+            counters: self.counters,
+            files: self.files,
         }
     }
 

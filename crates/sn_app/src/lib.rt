@@ -44,7 +44,7 @@ mod tests;
 mod verbs;
 
 pub use app::App;
-pub use bench::Bench;
+pub use bench::{Bench, BenchParts};
 pub use counters::{AppCounts, Counter, Counters};
 pub use ctx::Ctx;
 pub use end_state::EndState;

@@ -53,6 +53,13 @@ impl Tape {
         &self.journal
     }
 
+    /// The journal of these entries.
+    pub(crate) fn into_journal(self) -> Journal
+        ensures { result.entries ≡ self.past }
+    {
+        self.journal
+    }
+
     /// Makes room for one entry more.
     pub(crate) fn reserve(&mut self) -> Result<(), AllocError>
         ensures room { OnOk result (1 ≤ self.new.room) }
