@@ -1,25 +1,23 @@
 -- What the course of a call says of its answer, clause by clause.
-use Rattle.std.proofs.Common.{◌≡◌, ℕ, Bool, true, inl, inr, List, [], ◌++◌, Option, Some, None, refl, sym, ap, ◌∙◌, subst}
+use Rattle.std.proofs.Common.{◌≡◌, ℕ, true, inl, inr, List, [], Option, Some, None, refl, sym, ap, ◌∙◌, subst}
 use Rattle.std.proofs.lemmas.List.{append-nil}
 use Rattle.std.specs.Prelude.{IfSome, IsSome, unwrap_or, ◌⊎◌, ◌↔◌, ◌≢◌}
 use Rattle.sn_outside.specs.Counts.{FaultCounted}
 use Rattle.sn_pcap.specs.declared.fault.PcapFault.{PcapFault}
 use Rattle.sn_pcap.specs.Faults.{HasFault}
 use Rattle.sn_pcap.specs.Grammar.{PcapText}
-use Rattle.sn_outside.specs.declared.fault.FileFault.{FileFault}
 use Rattle.sn_outside.specs.declared.fault.FileFault.TheVariants.{Failed, TooLong as Long, OutOfMemory as NoMemory}
-use Rattle.sn_run.specs.Answers.{Answered, FaultsCounted, Headline, IsCaused, IsDue, IsTextOf, Leaves, Reports, answer_of, ended_by}
+use Rattle.sn_run.specs.Answers.{Answered, FaultsCounted, Headline, IsCaused, IsDue, IsTextOf, Leaves, Reports, ended_by}
 use Rattle.sn_run.specs.Calls.{CallsMade, IsOrStarved}
-use Rattle.sn_run.specs.Commands.{IsCommand, IsCommandOf}
-use Rattle.sn_run.specs.Courses.{Course, Follows}
-use Rattle.sn_run.specs.Expectations.{CommandLeads, Expected, IsOutside, Leads}
+use Rattle.sn_run.specs.Commands.{IsCommand}
+use Rattle.sn_run.specs.Courses.{Course}
+use Rattle.sn_run.specs.Expectations.{Expected, IsOutside, Leads}
 use Rattle.sn_run.specs.Printed.{Sunk, TookAll, TookAllOf, TookFrontOf}
 use Rattle.sn_run.specs.Reported.{RunReport}
 use Rattle.sn_run.specs.Scripts.{command_script}
 use Rattle.sn_run.specs.Seen.{Seen}
-use Rattle.sn_run.specs.Texts.{Said, said_of}
+use Rattle.sn_run.specs.Texts.{Said}
 use Rattle.sn_run.specs.Ways.{Way, no_words, unread, refused, finished, done, unwritten, starved, unprinted, way_of}
-use Rattle.sn_run.specs.declared.command.Command.{Command}
 use Rattle.sn_run.specs.declared.status.Ended.{Ended}
 use Rattle.sn_run.specs.declared.status.Status.{Status}
 use Rattle.sn_run.specs.declared.status.Status.TheVariants.{Drained, RoundsUsed, Done, BadWords, NoWorker, BadScenario, NotYet, BadPcap, ReadFault, TooLong, WriteFault, PrintFault, OutOfMemory}
@@ -73,7 +71,7 @@ module _ (w : Seen) (words : List (List ℕ)) where
       by_report None is = tt
       by_report (Some told) is = of_one told is course
 
-  module _ (one_fault : (bytes : List ℕ) (a b : PcapFault) → HasFault bytes a → HasFault bytes b → a ≡ b) (no_fault : (bytes : List ℕ) (records : List (List ℕ)) (fault : PcapFault) → PcapText bytes records → HasFault bytes fault → ⊥) (one_reading : (bytes : List ℕ) (xs ys : List (List ℕ)) → PcapText bytes xs → PcapText bytes ys → xs ≡ ys) where
+  module _ (one_fault : (bytes : List ℕ) (a b : PcapFault) → HasFault bytes a → HasFault bytes b → a ≡ b) (no_fault : (bytes : List ℕ) (records : List (List ℕ)) (fault : PcapFault) → PcapText bytes records → HasFault bytes fault → ⊥) where
     -- words and contents lead to one answer
     one_expected : (a b : Said) → Expected w.old.contents words a → Expected w.old.contents words b → a ≡ b
     one_expected a b (inl x) (inl y) = x.1 ∙ sym y.1
@@ -81,7 +79,7 @@ module _ (w : Seen) (words : List (List ℕ)) where
     one_expected a b (inr x) (inl y) = absurd (y.0 (x.file, x.command, x.asked))
     one_expected a b (inr x) (inr y) =
         let one : (x.file ≡ y.file) × (x.command ≡ y.command) = one_asked words x.file y.file x.command y.command x.asked y.asked in
-        one_lead one_fault no_fault one_reading (command_script y.file y.command) w.old.contents a b
+        one_lead one_fault no_fault (command_script y.file y.command) w.old.contents a b
         (subst (λ f. Leads (command_script f y.command) w.old.contents a) one.0 (subst (λ c. Leads (command_script x.file c) w.old.contents a) one.1 x.leads))
         y.leads
 
@@ -157,9 +155,9 @@ module _ (w : Seen) (words : List (List ℕ)) where
   answer_done (Some answer) status faults is = absurd (let e : PrintFault ≡ Done = sym (faults.0 refl) ∙ is in cc)
 
   -- what is printed is what words and contents say
-  pub shown_taken : (one_fault : (bytes : List ℕ) (a b : PcapFault) → HasFault bytes a → HasFault bytes b → a ≡ b) (no_fault : (bytes : List ℕ) (records : List (List ℕ)) (fault : PcapFault) → PcapText bytes records → HasFault bytes fault → ⊥) (one_reading : (bytes : List ℕ) (xs ys : List (List ℕ)) → PcapText bytes xs → PcapText bytes ys → xs ≡ ys) (s : Sunk) (ended : Ended) (wanted : Said) → Answered w s words ended → IsSome ended.replaced ↔ (ended.status ≡ PrintFault) → w.tells ≡ true → Expected w.old.contents words wanted → ended.status ≡ Done → TookAll s wanted.text
-  shown_taken one_fault no_fault one_reading s ended wanted answered faults t expected is =
-      subst (TookAll s) (shown_of one_fault no_fault one_reading ended.report _ wanted answered.course t expected (ap way_of (answer_done ended.replaced ended.status faults is)))
+  pub shown_taken : (one_fault : (bytes : List ℕ) (a b : PcapFault) → HasFault bytes a → HasFault bytes b → a ≡ b) (no_fault : (bytes : List ℕ) (records : List (List ℕ)) (fault : PcapFault) → PcapText bytes records → HasFault bytes fault → ⊥) (s : Sunk) (ended : Ended) (wanted : Said) → Answered w s words ended → IsSome ended.replaced ↔ (ended.status ≡ PrintFault) → w.tells ≡ true → Expected w.old.contents words wanted → ended.status ≡ Done → TookAll s wanted.text
+  shown_taken one_fault no_fault s ended wanted answered faults t expected is =
+      subst (TookAll s) (shown_of one_fault no_fault ended.report _ wanted answered.course t expected (ap way_of (answer_done ended.replaced ended.status faults is)))
       (answered.all (λ p. let e : Done ≡ PrintFault = sym is ∙ p in cc))
 
   own_of : (report : Option RunReport) (said : Said) → Course w words report said → HasOwnText said

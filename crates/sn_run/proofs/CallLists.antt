@@ -1,7 +1,6 @@
 -- The list of calls that a script makes.
-use Rattle.std.proofs.Common.{◌≡◌, ℕ, Bool, true, inl, inr, List, [], ◌∷◌, ◌++◌, Option, Some, None, Ok, Err, map, refl, sym, ap, ◌∙◌, subst, append_assoc}
+use Rattle.std.proofs.Common.{◌≡◌, ℕ, Bool, true, inl, inr, List, [], ◌∷◌, ◌++◌, Option, Ok, Err, map, refl, sym, ap, ◌∙◌, subst, append_assoc}
 use Rattle.std.proofs.lemmas.List.{append-nil}
-use Rattle.std.specs.Prelude.{◌⊎◌}
 use Rattle.sn_outside.specs.Told.{with_call}
 use Rattle.sn_outside.specs.Views.{FilesView}
 use Rattle.sn_outside.specs.declared.fault.FileFault.{FileFault}
@@ -10,12 +9,12 @@ use Rattle.sn_outside.specs.declared.files.CallKind.{CallKind}
 use Rattle.sn_outside.specs.declared.files.CallKind.TheVariants.{Read, Write}
 use Rattle.sn_outside.specs.declared.files.FileCall.{FileCall}
 use Rattle.sn_run.specs.Calls.{AreCalls, EndsUnwritten, IsOrStarved, unread_way}
-use Rattle.sn_run.specs.Courses.{Follows, SaysUnwritten, Stops, Unwritten}
-use Rattle.sn_run.specs.Reported.{IsRun, RunReport, WrittenFile}
+use Rattle.sn_run.specs.Courses.{Follows, SaysUnwritten, Unwritten}
+use Rattle.sn_run.specs.Reported.{IsRun, RunReport}
 use Rattle.sn_run.specs.Scripts.{Script, prints, refuses, reads, opens, runs}
 use Rattle.sn_run.specs.Seen.{a_read, write_call}
-use Rattle.sn_run.specs.Texts.{Said, SaysOrStarves, said_of, starving, unread_said}
-use Rattle.sn_run.specs.Ways.{Way, starved}
+use Rattle.sn_run.specs.Texts.{Said, SaysOrStarves, starving, unread_said}
+use Rattle.sn_run.specs.Ways.{starved}
 
 -- calls that were made, and whose they are
 pub record MakesCalls (tells : Bool) (s : Script) (old new : FilesView) (said : Said) : Type 0 where
@@ -49,7 +48,7 @@ none_called : (old new : FilesView) → new ≡ old → new.calls ≡ old.calls 
 none_called old new same = ap (λ v. v.calls) same ∙ sym (append-nil old.calls)
 
 module _ (tells : Bool) where
-  unwritten_calls : (form : _) (captures : List (List (List ℕ))) (old new : FilesView) (told : RunReport) (report : Option RunReport) (said : Said) → IsRun form captures told → Unwritten tells old new told report said → MakesCalls tells (runs form captures) old new said
+  unwritten_calls : (form : _) (captures : List (List ℕ)) (old new : FilesView) (told : RunReport) (report : Option RunReport) (said : Said) → IsRun form captures told → Unwritten tells old new told report said → MakesCalls tells (runs form captures) old new said
   unfolding AreCalls
   unwritten_calls form captures old new told report said run u = record {
     calls = with_call (map write_call u.up_to.front) Write u.file.name (Err u.fault);
@@ -87,8 +86,8 @@ module _ (tells : Bool) where
   }
   makes_calls (reads name limit next) old new report said (inr (inr st)) = record { calls = []; told = λ t. none_called old new st.same; are = inr (inr (refl, only_starved said st.says)) }
   makes_calls (opens name bytes next) old new report said (inl g) =
-      let rest : MakesCalls tells (next g.0) old new said = makes_calls (next g.0) old new report said g.2 in
-      record { calls = rest.calls; told = rest.told; are = inl (g.0, g.1, rest.are) }
+      let rest : MakesCalls tells next old new said = makes_calls next old new report said g.1 in
+      record { calls = rest.calls; told = rest.told; are = inl (g.0, rest.are) }
   makes_calls (opens name bytes next) old new report said (inr (inl h)) = record { calls = []; told = λ t. none_called old new h.2.same; are = inr (inl (h.0, h.1, refl, way_says said _ h.2.says)) }
   makes_calls (opens name bytes next) old new report said (inr (inr st)) = record { calls = []; told = λ t. none_called old new st.same; are = inr (inr (refl, only_starved said st.says)) }
   makes_calls (runs form captures) old new report said (inl (told, run, inl f)) = record {

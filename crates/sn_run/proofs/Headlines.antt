@@ -1,22 +1,21 @@
 -- A report is that of a run of what was read.
-use Rattle.std.proofs.Common.{◌≡◌, ℕ, ◌-◌, Bool, true, false, cond, inl, inr, List, [], ◌∷◌, ◌++◌, Option, Some, None, Ok, Err, length, refl, sym, ap, ◌∙◌, subst, append_assoc}
+use Rattle.std.proofs.Common.{◌≡◌, ℕ, ◌-◌, Bool, true, false, cond, inl, inr, List, [], ◌∷◌, ◌++◌, Option, Some, None, Ok, Err, length, refl, sym, ◌∙◌, subst, append_assoc}
 use Rattle.std.proofs.lemmas.List.{append-nil}
-use Rattle.std.specs.Prelude.{◌⊎◌, Result, min, nat_lt}
+use Rattle.std.specs.Prelude.{Result, nat_lt}
 use Rattle.sn_outside.specs.Contents.{Contents}
 use Rattle.sn_outside.specs.Views.{FilesView}
 use Rattle.sn_outside.specs.declared.fault.FileFault.{FileFault}
 use Rattle.sn_outside.specs.declared.fault.FileFault.TheVariants.{Failed, TooLong, OutOfMemory}
-use Rattle.sn_pcap.specs.Grammar.{PcapText}
 use Rattle.sn_scenario.specs.ScenarioText.{scenario_of}
 use Rattle.sn_scenario.specs.Scenarios.{ScenarioForm}
 use Rattle.sn_scenario.specs.declared.fault.ScenarioFault.{ScenarioFault}
 use Rattle.sn_run.specs.Answers.{HasCaptures, Headline}
 use Rattle.sn_run.specs.Commands.{IsCommandOf}
 use Rattle.sn_run.specs.Copying.{runs_now}
-use Rattle.sn_run.specs.Courses.{Follows, SaysUnwritten, Stops, Unwritten}
+use Rattle.sn_run.specs.Courses.{Follows, SaysUnwritten}
 use Rattle.sn_run.specs.Reported.{IsRun, RunReport}
-use Rattle.sn_run.specs.Scripts.{Script, prints, refuses, reads, opens, runs, actions_script, captures_script, command_script, form_script, most_capture, most_captures, most_scenario, run_script, text_script}
-use Rattle.sn_run.specs.Seen.{Found, Seen}
+use Rattle.sn_run.specs.Scripts.{prints, refuses, captures_script, command_script, form_script, most_captures, text_script}
+use Rattle.sn_run.specs.Seen.{Seen}
 use Rattle.sn_run.specs.Texts.{Said}
 use Rattle.sn_run.specs.declared.command.Command.{Command}
 use Rattle.sn_run.specs.declared.command.Command.TheVariants.{Run, Check, Actions}
@@ -28,35 +27,34 @@ same_some : {A : Type 0} (report : Option A) (a b : A) → report ≡ Some a →
 same_some report a b x y = let e : Some a ≡ Some b = sym x ∙ y in cc
 
 -- a run over captures that were found, behind these
-record Founded (tells : Bool) (m : Contents) (form : ScenarioForm) (names : List (List ℕ)) (room : ℕ) (before : List (List (List ℕ))) (told : RunReport) : Type 0 where
-  pub captures : List (List (List ℕ))
+record Founded (tells : Bool) (m : Contents) (form : ScenarioForm) (names : List (List ℕ)) (room : ℕ) (before : List (List ℕ)) (told : RunReport) : Type 0 where
+  pub captures : List (List ℕ)
   pub held : HasCaptures tells m room names captures
   pub run : IsRun form (before ++ captures) told
 
-by_unwritten : (form : ScenarioForm) (captures : List (List (List ℕ))) (report : Option RunReport) (told left : RunReport) (said : Said) (name : List ℕ) (fault : FileFault) → report ≡ Some told → IsRun form captures left → SaysUnwritten fault name left report said → IsRun form captures told
+by_unwritten : (form : ScenarioForm) (captures : List (List ℕ)) (report : Option RunReport) (told left : RunReport) (said : Said) (name : List ℕ) (fault : FileFault) → report ≡ Some told → IsRun form captures left → SaysUnwritten fault name left report said → IsRun form captures told
 by_unwritten form captures report told left said name Failed is run s = subst (IsRun form captures) (same_some report left told s.0 is) run
 by_unwritten form captures report told left said name TooLong is run s = absurd s
 by_unwritten form captures report told left said name OutOfMemory is run s = absurd (no_some report told is s.0)
 
 module _ (tells : Bool) (report : Option RunReport) (told : RunReport) (is : report ≡ Some told) (m : Contents) where
-  founded : (form : ScenarioForm) (names : List (List ℕ)) (room : ℕ) (before : List (List (List ℕ))) (old new : FilesView) (said : Said) → (tells ≡ true → old.contents ≡ m) → Follows tells (captures_script form names room before) old new report said → Founded tells m form names room before told
+  founded : (form : ScenarioForm) (names : List (List ℕ)) (room : ℕ) (before : List (List ℕ)) (old new : FilesView) (said : Said) → (tells ≡ true → old.contents ≡ m) → Follows tells (captures_script form names room before) old new report said → Founded tells m form names room before told
   unfolding Follows
   founded form [] room before old new said kept (inl (left, run, inl f)) =
       record { captures = []; held = tt; run = subst (λ cs. IsRun form cs told) (sym (append-nil before)) (subst (IsRun form before) (same_some report left told f.is is) run) }
   founded form [] room before old new said kept (inl (left, run, inr u)) =
       record { captures = []; held = tt; run = subst (λ cs. IsRun form cs told) (sym (append-nil before)) (by_unwritten form before report told left said u.file.name u.fault is run u.says) }
   founded form [] room before old new said kept (inr st) = absurd (no_some report told is st.none)
-  founded form (name ∷ names) room before old new said kept (inl (bytes, mid, gave, inl (records, text, more))) =
-      let rest : Founded tells m form names (room - length bytes) (before ++ records ∷ []) told = founded form names (room - length bytes) (before ++ records ∷ []) mid new said (λ t. gave.kept t ∙ kept t) more in
+  founded form (name ∷ names) room before old new said kept (inl (bytes, mid, gave, inl (is_capture, more))) =
+      let rest : Founded tells m form names (room - length bytes) (before ++ bytes ∷ []) told = founded form names (room - length bytes) (before ++ bytes ∷ []) mid new said (λ t. gave.kept t ∙ kept t) more in
       record {
-        captures = records ∷ rest.captures;
+        captures = bytes ∷ rest.captures;
         held = (
-          bytes,
           record { told = λ t. subst (λ n. Rattle.std.specs.FinMap.get n name ≡ Some bytes) (kept t) (gave.found.told t); short = gave.found.short },
-          text,
+          is_capture,
           rest.held,
         );
-        run = subst (λ cs. IsRun form cs told) (append_assoc before (records ∷ []) rest.captures) rest.run;
+        run = subst (λ cs. IsRun form cs told) (append_assoc before (bytes ∷ []) rest.captures) rest.run;
       }
   founded form (name ∷ names) room before old new said kept (inl (bytes, mid, gave, inr (inl h))) = absurd (no_some report told is h.2.none)
   founded form (name ∷ names) room before old new said kept (inl (bytes, mid, gave, inr (inr st))) = absurd (no_some report told is st.none)

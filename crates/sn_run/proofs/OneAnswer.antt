@@ -1,7 +1,6 @@
 -- Where words and contents lead, and that they lead to one answer.
 use Rattle.std.proofs.Common.{◌≡◌, ℕ, ◌<◌, ◌≤◌, Bool, true, inl, inr, List, [], ◌∷◌, Option, Some, None, Ok, Err, refl, sym, ap, ◌∙◌, subst, arith}
 use Rattle.std.specs.Prelude.{◌⊎◌, IsSomeAnd}
-use Rattle.std.specs.FinMap.{get}
 use Rattle.sn_outside.specs.Contents.{Contents}
 use Rattle.sn_outside.specs.Views.{FilesView}
 use Rattle.sn_outside.specs.declared.fault.FileFault.{FileFault}
@@ -9,14 +8,15 @@ use Rattle.sn_outside.specs.declared.fault.FileFault.TheVariants.{Failed, TooLon
 use Rattle.sn_pcap.specs.declared.fault.PcapFault.{PcapFault}
 use Rattle.sn_pcap.specs.Faults.{HasFault}
 use Rattle.sn_pcap.specs.Grammar.{PcapText}
+use Rattle.sn_pcap.specs.Places.{payloads_of}
 use Rattle.sn_scenario.specs.Scenarios.{ScenarioForm}
-use Rattle.sn_run.specs.Courses.{Follows, SaysUnwritten, Stops, Unwritten}
+use Rattle.sn_run.specs.Courses.{Follows, SaysUnwritten}
 use Rattle.sn_run.specs.Expectations.{IsOutside, Leads}
-use Rattle.sn_run.specs.Reported.{IsRun, RunReport, outcome}
+use Rattle.sn_run.specs.Reported.{IsRun, RunReport, outcome, report_of}
 use Rattle.sn_run.specs.Scripts.{Script, prints, refuses, reads, opens, runs}
 use Rattle.sn_run.specs.Seen.{Holds, IsOver, ReadRefused}
 use Rattle.sn_run.specs.Texts.{Said, SaysOrStarves, said_of, starving, unread_said}
-use Rattle.sn_run.specs.Ways.{Way, unread, refused, finished, done, unwritten, starved, no_capture}
+use Rattle.sn_run.specs.Ways.{refused, finished, no_capture}
 
 -- the answer tells of a fault of files or of want of memory, or the contents lead to it
 abbrev pub Led : Script → Contents → Said → Type 0
@@ -48,7 +48,7 @@ module _ (tells : Bool) (t : tells ≡ true) where
       ]
   led (reads name limit next) old new report said (inr (inl u)) = said_led (reads name limit next) old.contents said (unread_said name u.fault) u.says (unread_led old new name limit next u.fault u.refused)
   led (reads name limit next) old new report said (inr (inr st)) = said_led (reads name limit next) old.contents said starving st.says (inl tt)
-  led (opens name bytes next) old new report said (inl g) = elim (led (next g.0) old new report said g.2) [ inl o ↦ inl o | inr l ↦ inr (inl (g.0, g.1, l)) ]
+  led (opens name bytes next) old new report said (inl g) = elim (led next old new report said g.1) [ inl o ↦ inl o | inr l ↦ inr (inl (g.0, l)) ]
   led (opens name bytes next) old new report said (inr (inl h)) = said_led (opens name bytes next) old.contents said _ h.2.says (inr (inr (h.0, h.1, refl)))
   led (opens name bytes next) old new report said (inr (inr st)) = said_led (opens name bytes next) old.contents said starving st.says (inl tt)
   led (runs form captures) old new report said (inl (told, run, inl f)) = inr (told, run, f.says)
@@ -66,16 +66,16 @@ never_over m name limit bytes x y =
     omega (arith, over, x.short)
 
 -- a run leaves one report
-one_run : (form : ScenarioForm) (captures : List (List (List ℕ))) (a b : RunReport) → IsRun form captures a → IsRun form captures b → a ≡ b
+one_run : (form : ScenarioForm) (captures : List (List ℕ)) (a b : RunReport) → IsRun form captures a → IsRun form captures b → a ≡ b
 one_run form captures a b x y =
-    let records : x.records ≡ y.records = same_only x.records y.records (sym x.from ∙ y.from) in
+    let bytes : x.bytes ≡ y.bytes = same_only x.bytes y.bytes (sym x.from ∙ y.from) in
     let output : x.output ≡ y.output = same_only x.output y.output (sym x.to ∙ y.to) in
-    x.told ∙ ap (λ o. Rattle.sn_run.specs.Reported.report_of form.settings o x.records) output ∙ ap (Rattle.sn_run.specs.Reported.report_of form.settings y.output) records ∙ sym y.told
+    x.told ∙ ap (λ o. report_of form.settings o (payloads_of x.bytes)) output ∙ ap (λ b. report_of form.settings y.output (payloads_of b)) bytes ∙ sym y.told
   where
     same_only : {A : Type 0} (x y : A) → x ∷ [] ≡ y ∷ [] → x ≡ y
     same_only x y e = cc
 
-module _ (one_fault : (bytes : List ℕ) (a b : PcapFault) → HasFault bytes a → HasFault bytes b → a ≡ b) (no_fault : (bytes : List ℕ) (records : List (List ℕ)) (fault : PcapFault) → PcapText bytes records → HasFault bytes fault → ⊥) (one_reading : (bytes : List ℕ) (xs ys : List (List ℕ)) → PcapText bytes xs → PcapText bytes ys → xs ≡ ys) where
+module _ (one_fault : (bytes : List ℕ) (a b : PcapFault) → HasFault bytes a → HasFault bytes b → a ≡ b) (no_fault : (bytes : List ℕ) (records : List (List ℕ)) (fault : PcapFault) → PcapText bytes records → HasFault bytes fault → ⊥) where
   pub one_lead : (s : Script) (m : Contents) (a b : Said) → Leads s m a → Leads s m b → a ≡ b
   unfolding Leads
   one_lead (prints text) m a b x y = x ∙ sym y
@@ -84,8 +84,8 @@ module _ (one_fault : (bytes : List ℕ) (a b : PcapFault) → HasFault bytes a 
   one_lead (reads name limit next) m a b (inl x) (inr y) = absurd (never_over m name limit x.0 x.1 y.0)
   one_lead (reads name limit next) m a b (inr x) (inl y) = absurd (never_over m name limit y.0 y.1 x.0)
   one_lead (reads name limit next) m a b (inr x) (inr y) = x.1 ∙ sym y.1
-  one_lead (opens name bytes next) m a b (inl x) (inl y) = one_lead (next y.0) m a b (subst (λ t. Leads (next t) m a) (one_reading bytes x.0 y.0 x.1 y.1) x.2) y.2
-  one_lead (opens name bytes next) m a b (inl x) (inr y) = absurd (no_fault bytes x.0 y.0 x.1 y.1)
-  one_lead (opens name bytes next) m a b (inr x) (inl y) = absurd (no_fault bytes y.0 x.0 y.1 x.1)
+  one_lead (opens name bytes next) m a b (inl x) (inl y) = one_lead next m a b x.1 y.1
+  one_lead (opens name bytes next) m a b (inl x) (inr y) = absurd (no_fault bytes x.0.records y.0 x.0.text y.1)
+  one_lead (opens name bytes next) m a b (inr x) (inl y) = absurd (no_fault bytes y.0.records x.0 y.0.text x.1)
   one_lead (opens name bytes next) m a b (inr x) (inr y) = x.2 ∙ ap (λ f. said_of (refused (no_capture name f))) (one_fault bytes x.0 y.0 x.1 y.1) ∙ sym y.2
   one_lead (runs form captures) m a b x y = x.2 ∙ ap (λ r. said_of (finished (outcome r.left))) (one_run form captures x.0 y.0 x.1 y.1) ∙ sym y.2

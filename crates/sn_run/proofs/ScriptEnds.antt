@@ -1,27 +1,21 @@
 -- What the course of a call says of its answer.
-use Rattle.std.proofs.Common.{◌≡◌, ℕ, ◌≤◌, Bool, true, inl, inr, List, [], ◌∷◌, ◌++◌, Option, Some, None, Ok, Err, map, refl, sym, ap, ◌∙◌, subst, append_assoc, arith}
-use Rattle.std.proofs.lemmas.List.{append-nil}
-use Rattle.std.specs.Prelude.{◌⊎◌, ◌↔◌, ◌≢◌}
+use Rattle.std.proofs.Common.{◌≡◌, ℕ, ◌≤◌, Bool, true, inl, inr, List, [], ◌∷◌, ◌++◌, Option, Some, None, refl, sym, ap, ◌∙◌, subst, arith}
+use Rattle.std.specs.Prelude.{◌≢◌}
 use Rattle.std.specs.FinMap.{get}
 use Rattle.sn_outside.specs.Contents.{Contents}
-use Rattle.sn_outside.specs.Told.{with_call}
 use Rattle.sn_outside.specs.Views.{FilesView}
 use Rattle.sn_outside.specs.declared.fault.FileFault.{FileFault}
 use Rattle.sn_outside.specs.declared.fault.FileFault.TheVariants.{Failed, TooLong as Long, OutOfMemory as NoMemory}
-use Rattle.sn_outside.specs.declared.files.CallKind.TheVariants.{Read, Write}
-use Rattle.sn_outside.specs.declared.files.FileCall.{FileCall}
-use Rattle.sn_run.specs.Answers.{FaultsCounted, Leaves, Reports, StopsAt}
-use Rattle.sn_run.specs.Calls.{AreCalls, AreCallsOf, CallsMade, IsOrStarved}
-use Rattle.sn_run.specs.Commands.{IsCommand}
+use Rattle.sn_run.specs.Answers.{FaultsCounted, Leaves, Reports}
 use Rattle.sn_run.specs.Courses.{Course, Finished, Follows, SaysUnwritten, Stops, Unread, Unwritten}
 use Rattle.sn_run.specs.Reported.{IsRun, RunReport, WrittenFile, outcome, with_files}
-use Rattle.sn_run.specs.Scripts.{Script, prints, refuses, reads, opens, runs, command_script}
-use Rattle.sn_run.specs.Seen.{ReadRefused, Seen, WriteRefused, Written, a_read, write_call}
+use Rattle.sn_run.specs.Scripts.{Script, prints, refuses, reads, opens, runs}
+use Rattle.sn_run.specs.Seen.{ReadRefused, WriteRefused}
 use Rattle.sn_run.specs.Texts.{Said, SaysOrStarves, said_of, starving, unread_said, way_text}
 use Rattle.sn_run.specs.Ways.{Way, no_words, unread, refused, finished, done, unwritten, starved, unprinted, way_of}
 use Rattle.sn_run.specs.declared.outcome.Outcome.{Outcome}
 use Rattle.sn_run.specs.declared.status.Status.{Status}
-use Rattle.sn_run.specs.declared.status.Status.TheVariants.{Drained, RoundsUsed, Done, BadWords, NoWorker, BadScenario, NotYet, BadPcap, ReadFault, TooLong, WriteFault, PrintFault, OutOfMemory}
+use Rattle.sn_run.specs.declared.status.Status.TheVariants.{PrintFault}
 
 -- what holds of what is wanted and of want of memory holds of what is said
 says : (P : Said → Type 0) (said wanted : Said) → SaysOrStarves said wanted → P wanted → P starving → P said
@@ -65,7 +59,7 @@ module _ (tells : Bool) where
   of_script (reads name limit next) old new report said (inl g) = of_script (next g.0) g.1 new report said g.3
   of_script (reads name limit next) old new report said (inr (inl u)) = says OfScript said (unread_said name u.fault) u.says (unread_of_script name u.fault) tt
   of_script (reads name limit next) old new report said (inr (inr st)) = stops_of_script old new report said starving st tt
-  of_script (opens name bytes next) old new report said (inl g) = of_script (next g.0) old new report said g.2
+  of_script (opens name bytes next) old new report said (inl g) = of_script next old new report said g.1
   of_script (opens name bytes next) old new report said (inr (inl h)) = stops_of_script old new report said _ h.2 tt
   of_script (opens name bytes next) old new report said (inr (inr st)) = stops_of_script old new report said starving st tt
   of_script (runs form captures) old new report said (inl (told, run, inl f)) = subst OfScript (sym f.says) tt
@@ -111,7 +105,7 @@ reports tells (refuses why) old new report said f = stops_reports report said _ 
 reports tells (reads name limit next) old new report said (inl g) = reports tells (next g.0) g.1 new report said g.3
 reports tells (reads name limit next) old new report said (inr (inl u)) = stops_reports report said _ u.none u.says (unread_reports name u.fault)
 reports tells (reads name limit next) old new report said (inr (inr st)) = stops_reports report said starving st.none st.says tt
-reports tells (opens name bytes next) old new report said (inl g) = reports tells (next g.0) old new report said g.2
+reports tells (opens name bytes next) old new report said (inl g) = reports tells next old new report said g.1
 reports tells (opens name bytes next) old new report said (inr (inl h)) = stops_reports report said _ h.2.none h.2.says tt
 reports tells (opens name bytes next) old new report said (inr (inr st)) = stops_reports report said starving st.none st.says tt
 reports tells (runs form captures) old new report said (inl (told, run, inl f)) = subst (λ r. OfReport r said) (sym f.is) (subst (OfReport (Some told)) (sym f.says) refl)
@@ -138,7 +132,7 @@ module _ (tells : Bool) (t : tells ≡ true) where
   stops_leaves : (old new : FilesView) (report : Option RunReport) (said wanted : Said) → Stops old new report said wanted → OfFiles old.contents new.contents report said
   stops_leaves old new report said wanted stops = subst (λ r. OfFiles old.contents new.contents r said) (sym stops.none) (ap (λ v. v.contents) stops.same)
 
-  unwritten_leaves : (form : _) (captures : List (List (List ℕ))) (old new : FilesView) (told : RunReport) (report : Option RunReport) (said : Said) → IsRun form captures told → Unwritten tells old new told report said → OfFiles old.contents new.contents report said
+  unwritten_leaves : (form : _) (captures : List (List ℕ)) (old new : FilesView) (told : RunReport) (report : Option RunReport) (said : Said) → IsRun form captures told → Unwritten tells old new told report said → OfFiles old.contents new.contents report said
   unwritten_leaves form captures old new told report said run u = by_fault u.fault u.up_to.refused u.says
     where
       by_fault : (fault : FileFault) → WriteRefused tells u.up_to.between new u.file.name fault → SaysUnwritten fault u.file.name told report said → OfFiles old.contents new.contents report said
@@ -162,7 +156,7 @@ module _ (tells : Bool) (t : tells ≡ true) where
   leaves (reads name limit next) old new report said (inl g) = subst (λ m. OfFiles m new.contents report said) (g.2.kept t) (leaves (next g.0) g.1 new report said g.3)
   leaves (reads name limit next) old new report said (inr (inl u)) = subst (λ r. OfFiles old.contents new.contents r said) (sym u.none) (u.refused.kept t)
   leaves (reads name limit next) old new report said (inr (inr st)) = stops_leaves old new report said starving st
-  leaves (opens name bytes next) old new report said (inl g) = leaves (next g.0) old new report said g.2
+  leaves (opens name bytes next) old new report said (inl g) = leaves next old new report said g.1
   leaves (opens name bytes next) old new report said (inr (inl h)) = stops_leaves old new report said _ h.2
   leaves (opens name bytes next) old new report said (inr (inr st)) = stops_leaves old new report said starving st
   leaves (runs form captures) old new report said (inl (told, run, inl f)) = subst (λ r. OfFiles old.contents new.contents r said) (sym f.is) (subst (OfFiles old.contents new.contents (Some told)) (sym f.says) (f.written.contents t))
@@ -194,7 +188,7 @@ module _ (tells : Bool) where
   counts (reads name limit next) old new report said (inl g) = subst (λ n. OfFaults n new.faults said) g.2.still (counts (next g.0) g.1 new report said g.3)
   counts (reads name limit next) old new report said (inr (inl u)) = says (OfFaults old.faults new.faults) said (unread_said name u.fault) u.says (unread_counts old new name limit u.fault u.refused) u.refused.later
   counts (reads name limit next) old new report said (inr (inr st)) = still_counts old.faults new.faults said starving (ap (λ v. v.faults) st.same) st.says (λ e. omega (arith, e))
-  counts (opens name bytes next) old new report said (inl g) = counts (next g.0) old new report said g.2
+  counts (opens name bytes next) old new report said (inl g) = counts next old new report said g.1
   counts (opens name bytes next) old new report said (inr (inl h)) = still_counts old.faults new.faults said _ (ap (λ v. v.faults) h.2.same) h.2.says (λ e. e)
   counts (opens name bytes next) old new report said (inr (inr st)) = still_counts old.faults new.faults said starving (ap (λ v. v.faults) st.same) st.says (λ e. omega (arith, e))
   counts (runs form captures) old new report said (inl (told, run, inl f)) = subst (OfFaults old.faults new.faults) (sym f.says) f.written.still
@@ -222,7 +216,7 @@ own_text tells (refuses why) old new report said f = says HasOwnText said _ f.sa
 own_text tells (reads name limit next) old new report said (inl g) = own_text tells (next g.0) g.1 new report said g.3
 own_text tells (reads name limit next) old new report said (inr (inl u)) = says HasOwnText said (unread_said name u.fault) u.says (unread_text_own name u.fault) (λ other. refl)
 own_text tells (reads name limit next) old new report said (inr (inr st)) = says HasOwnText said starving st.says (λ other. refl) (λ other. refl)
-own_text tells (opens name bytes next) old new report said (inl g) = own_text tells (next g.0) old new report said g.2
+own_text tells (opens name bytes next) old new report said (inl g) = own_text tells next old new report said g.1
 own_text tells (opens name bytes next) old new report said (inr (inl h)) = says HasOwnText said _ h.2.says (λ other. refl) (λ other. refl)
 own_text tells (opens name bytes next) old new report said (inr (inr st)) = says HasOwnText said starving st.says (λ other. refl) (λ other. refl)
 own_text tells (runs form captures) old new report said (inl (told, run, inl f)) = subst HasOwnText (sym f.says) (λ other. refl)

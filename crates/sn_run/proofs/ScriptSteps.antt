@@ -1,20 +1,18 @@
 -- The steps of a command, joined to what its script says.
-use Rattle.std.proofs.Common.{◌≡◌, ℕ, ◌+◌, ◌-◌, ◌<◌, ◌≤◌, Bool, true, false, inl, inr, List, [], ◌∷◌, ◌++◌, Option, Some, None, Ok, Err, length, map, drop, refl, sym, ap, ◌∙◌, subst, cond}
+use Rattle.std.proofs.Common.{◌≡◌, ℕ, ◌+◌, ◌-◌, ◌<◌, ◌≤◌, Bool, true, false, inl, inr, List, [], ◌∷◌, ◌++◌, Option, None, length, drop, refl, sym, ap, ◌∙◌, subst, cond}
 use Rattle.std.proofs.lemmas.Bool.{le-ltb, lt-ltb}
-use Rattle.std.proofs.lemmas.List.{drop_all, drop_more, length-append, map-append}
+use Rattle.std.proofs.lemmas.List.{drop_all, drop_more, length-append}
 use Rattle.std.specs.Prelude.{get_or, min}
 use Rattle.sn_outside.specs.Views.{FilesView}
 use Rattle.sn_outside.specs.declared.fault.FileFault.{FileFault}
 use Rattle.sn_pcap.specs.declared.fault.PcapFault.{PcapFault}
 use Rattle.sn_pcap.specs.Faults.{HasFault}
-use Rattle.sn_pcap.specs.Grammar.{PcapText}
-use Rattle.sn_pcap.specs.Places.{payloads_of}
 use Rattle.sn_scenario.specs.Plans.{plan_of}
 use Rattle.sn_scenario.specs.ScenarioText.{scenario_of}
 use Rattle.sn_scenario.specs.Scenarios.{ScenarioForm}
 use Rattle.sn_run.specs.ActionTexts.{actions_text}
 use Rattle.sn_run.specs.Copying.{runs_now}
-use Rattle.sn_run.specs.Courses.{Follows, Stops, Unread}
+use Rattle.sn_run.specs.Courses.{Follows}
 use Rattle.sn_run.specs.Reported.{RunReport, IsRun}
 use Rattle.sn_run.specs.Scripts.{Script, prints, refuses, reads, opens, runs, actions_script, captures_script, command_script, form_script, run_script, text_script, most_capture, most_captures, most_scenario}
 use Rattle.sn_run.specs.Seen.{ReadGave, ReadRefused}
@@ -72,13 +70,13 @@ module _ (tells : Bool) (old new : FilesView) where
   capture_lacks name limit bytes said gave lacks next = inl (bytes, new, gave, inr (inr (record { same = refl; none = refl; says = inl lacks })))
 
   -- a run goes on once its captures were read
-  pub run_ends : (form : ScenarioForm) (captures : List (List (List ℕ))) (told : RunReport) (report : Option RunReport) (said : Said) → IsRun form captures told → EndsRun tells old new told report said → Follows tells (runs form captures) old new report said
+  pub run_ends : (form : ScenarioForm) (captures : List (List ℕ)) (told : RunReport) (report : Option RunReport) (said : Said) → IsRun form captures told → EndsRun tells old new told report said → Follows tells (runs form captures) old new report said
   unfolding Follows
   run_ends form captures told report said run ends = elim ends [ inl e ↦ inl (told, run, e) | inr stops ↦ inr stops ]
 
 -- what is left of the captures' script, once so many were read
 abbrev pub left_script : ScenarioForm → List (List ℕ) → ℕ → ℕ → List (List ℕ) → Script
-left_script form names at room read = captures_script form (drop at names) room (map payloads_of read)
+left_script form names at room read = captures_script form (drop at names) room read
 
 -- what follows on that follows on all of it
 abbrev pub LeadsOn : Bool → FilesView → FilesView → List (List ℕ) → ℕ → ℕ → List (List ℕ) → Type 0
@@ -97,15 +95,14 @@ module _ (tells : Bool) (old now new : FilesView) (names : List (List ℕ)) (at 
   unfolding Follows
   lead_step bytes left more gave left_is more_is form last report said follows =
       so_far form last report said
-      (subst (λ here_on. Follows tells (captures_script form here_on room (map payloads_of read)) now last report said) (sym (drop_here names at name within here)) (inl (
+      (subst (λ here_on. Follows tells (captures_script form here_on room read) now last report said) (sym (drop_here names at name within here)) (inl (
         bytes,
         new,
         gave.gave,
         inl (
-          payloads_of bytes,
           gave.is,
-          subst (λ r. Follows tells (captures_script form (drop (at + 1) names) (room - length bytes) r) new last report said) (ap (map payloads_of) more_is ∙ map-append payloads_of read (bytes ∷ []))
-              (subst (λ r. Follows tells (captures_script form (drop (at + 1) names) r (map payloads_of more)) new last report said) left_is follows),
+          subst (λ r. Follows tells (captures_script form (drop (at + 1) names) (room - length bytes) r) new last report said) more_is
+              (subst (λ r. Follows tells (captures_script form (drop (at + 1) names) r more) new last report said) left_is follows),
         ),
       )))
 
@@ -113,8 +110,8 @@ module _ (tells : Bool) (old now new : FilesView) (names : List (List ℕ)) (at 
   lead_stop : (said : Said) → CaptureEnds tells now new name (min room most_capture) said → CapturesEnd tells old new names said
   lead_stop said ends form =
       so_far form new None said
-      (subst (λ here_on. Follows tells (captures_script form here_on room (map payloads_of read)) now new None said) (sym (drop_here names at name within here))
-      (ends (λ bytes records. captures_script form (drop (at + 1) names) (room - length bytes) (map payloads_of read ++ records ∷ []))))
+      (subst (λ here_on. Follows tells (captures_script form here_on room read) now new None said) (sym (drop_here names at name within here))
+      (ends (λ bytes. captures_script form (drop (at + 1) names) (room - length bytes) (read ++ bytes ∷ []))))
 
   module _ (limit : ℕ) (limit_is : limit ≡ min room most_capture) where
     pub lead_on : (bytes : List ℕ) (len left : ℕ) (more : List (List ℕ)) → GaveCapture tells now new name limit bytes → len ≡ length bytes → left ≡ room - len → more ≡ read ++ bytes ∷ [] → LeadsOn tells old new names (at + 1) left more
@@ -129,10 +126,10 @@ module _ (tells : Bool) (old now new : FilesView) (names : List (List ℕ)) (at 
     lead_lacks bytes said gave lacks = lead_ends said (capture_lacks tells now new name limit bytes said gave.gave lacks)
 
 -- all captures were read
-pub lead_done : (tells : Bool) (old new : FilesView) (names : List (List ℕ)) (at room : ℕ) (read : List (List ℕ)) → length names ≤ at → LeadsOn tells old new names at room read → LeadOn tells old new names (map payloads_of read)
+pub lead_done : (tells : Bool) (old new : FilesView) (names : List (List ℕ)) (at room : ℕ) (read : List (List ℕ)) → length names ≤ at → LeadsOn tells old new names at room read → LeadOn tells old new names read
 lead_done tells old new names at room read past so_far form last report said follows =
     so_far form last report said
-    (subst (λ here_on. Follows tells (captures_script form here_on room (map payloads_of read)) new last report said) (sym (drop_all at names past)) follows)
+    (subst (λ here_on. Follows tells (captures_script form here_on room read) new last report said) (sym (drop_all at names past)) follows)
 
 -- the answer is what was said without a report
 pub answered : (s : Script) (tells : Bool) (old new : FilesView) (report : Option RunReport) (said answer : Said) → Follows tells s old new None said → answer ≡ said → report ≡ None → Follows tells s old new report answer
@@ -168,10 +165,10 @@ pub with_script : (tells : Bool) (s t : Script) (old new : FilesView) (report : 
 with_script tells s t old new report said is follows = subst (λ u. Follows tells u old new report said) (sym is) follows
 
 -- what follows on the captures of a scenario
-pub read_on : (tells : Bool) (old between new : FilesView) (form : ScenarioForm) (names : List (List ℕ)) (read captures : List (List ℕ)) (report : Option RunReport) (said : Said) → names ≡ form.captures → captures ≡ read → LeadOn tells old between names (map payloads_of read) → Follows tells (runs form (map payloads_of captures)) between new report said → Follows tells (captures_script form form.captures most_captures []) old new report said
+pub read_on : (tells : Bool) (old between new : FilesView) (form : ScenarioForm) (names : List (List ℕ)) (read captures : List (List ℕ)) (report : Option RunReport) (said : Said) → names ≡ form.captures → captures ≡ read → LeadOn tells old between names read → Follows tells (runs form captures) between new report said → Follows tells (captures_script form form.captures most_captures []) old new report said
 read_on tells old between new form names read captures report said names_are same leads follows =
     subst (λ ns. Follows tells (captures_script form ns most_captures []) old new report said) names_are
-    (leads form new report said (subst (λ cs. Follows tells (runs form (map payloads_of cs)) between new report said) same follows))
+    (leads form new report said (subst (λ cs. Follows tells (runs form cs) between new report said) same follows))
 
 -- one element more
 pub length_more : {A : Type 0} (xs : List A) (x : A) (n : ℕ) → length xs ≡ n → length (xs ++ x ∷ []) ≡ n + 1

@@ -5,9 +5,9 @@ use Rattle.sn_outside.specs.Contents.{Contents}
 use Rattle.sn_outside.specs.Counts.{FaultCounted}
 use Rattle.sn_outside.specs.declared.fault.FileFault.{FileFault}
 use Rattle.sn_outside.specs.declared.fault.FileFault.TheVariants.{Failed, TooLong, OutOfMemory}
-use Rattle.sn_pcap.specs.Grammar.{PcapText}
 use Rattle.sn_scenario.specs.ScenarioText.{scenario_of}
 use Rattle.sn_scenario.specs.Scenarios.{ScenarioForm}
+use Rattle.sn_run.specs.Captures.{IsCapture}
 use Rattle.sn_run.specs.Commands.{IsCommandOf}
 use Rattle.sn_run.specs.Copying.{runs_now}
 use Rattle.sn_run.specs.Courses.{Course}
@@ -37,15 +37,14 @@ pub record HasScenario (w : Seen) (file text : List ℕ) (form : ScenarioForm) :
   pub is : scenario_of text ≡ Ok form
   pub now : runs_now text form ≡ true
 
--- the files of these names held captures of these records, of which each has room behind the ones before it
-abbrev pub HasCaptures : Bool → Contents → ℕ → List (List ℕ) → List (List (List ℕ)) → Type 0
+-- the files of these names held captures of these bytes, of which each has room behind the ones before it
+abbrev pub HasCaptures : Bool → Contents → ℕ → List (List ℕ) → List (List ℕ) → Type 0
 HasCaptures tells m room [] [] = Unit {0}
-HasCaptures tells m room [] (records ∷ captures) = ⊥
+HasCaptures tells m room [] (bytes ∷ captures) = ⊥
 HasCaptures tells m room (name ∷ names) [] = ⊥
-HasCaptures tells m room (name ∷ names) (records ∷ captures) =
-    (bytes : List ℕ)
-    × Found tells m name (min room most_capture) bytes
-    × PcapText bytes records
+HasCaptures tells m room (name ∷ names) (bytes ∷ captures) =
+    Found tells m name (min room most_capture) bytes
+    × IsCapture bytes
     × HasCaptures tells m (room - length bytes) names captures
 
 -- The report is that of a run of the scenario that this call read, over the captures that it read.
@@ -55,7 +54,7 @@ pub record Headline (w : Seen) (words : List (List ℕ)) (report : RunReport) : 
   pub text : List ℕ
   pub form : ScenarioForm
   pub scenario : HasScenario w file text form
-  pub captures : List (List (List ℕ))
+  pub captures : List (List ℕ)
   pub held : HasCaptures w.tells w.old.contents most_captures form.captures captures
   pub run : IsRun form captures report
 

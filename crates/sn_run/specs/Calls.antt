@@ -7,7 +7,7 @@ use Rattle.sn_outside.specs.declared.files.CallKind.TheVariants.{Read, Write}
 use Rattle.sn_outside.specs.declared.files.FileCall.{FileCall}
 use Rattle.sn_pcap.specs.declared.fault.PcapFault.{PcapFault}
 use Rattle.sn_pcap.specs.Faults.{HasFault}
-use Rattle.sn_pcap.specs.Grammar.{PcapText}
+use Rattle.sn_run.specs.Captures.{IsCapture}
 use Rattle.sn_run.specs.Commands.{IsCommand, IsCommandOf}
 use Rattle.sn_run.specs.Reported.{RunReport, WrittenFile, IsRun, outcome}
 use Rattle.sn_run.specs.Scripts.{Script, prints, refuses, reads, opens, runs, command_script}
@@ -54,7 +54,7 @@ AreCalls (reads name limit next) calls way =
     ⊎ (((fault : FileFault) × (calls ≡ with_call [] Read name (Err fault)) × IsOrStarved way (unread_way name fault))
     ⊎ ((calls ≡ []) × (way ≡ starved)))
 AreCalls (opens name bytes next) calls way =
-    ((records : List (List ℕ)) × PcapText bytes records × AreCalls (next records) calls way)
+    (IsCapture bytes × AreCalls next calls way)
     ⊎ (((fault : PcapFault) × HasFault bytes fault × (calls ≡ []) × IsOrStarved way (refused (no_capture name fault)))
     ⊎ ((calls ≡ []) × (way ≡ starved)))
 AreCalls (runs form captures) calls way =

@@ -5,7 +5,7 @@ use Rattle.sn_outside.specs.declared.fault.FileFault.{FileFault}
 use Rattle.sn_outside.specs.declared.fault.FileFault.TheVariants.{Failed, TooLong, OutOfMemory}
 use Rattle.sn_pcap.specs.declared.fault.PcapFault.{PcapFault}
 use Rattle.sn_pcap.specs.Faults.{HasFault}
-use Rattle.sn_pcap.specs.Grammar.{PcapText}
+use Rattle.sn_run.specs.Captures.{IsCapture}
 use Rattle.sn_run.specs.Commands.{IsCommand, IsCommandOf}
 use Rattle.sn_run.specs.Reported.{RunReport, WrittenFile, IsRun, outcome}
 use Rattle.sn_run.specs.Scripts.{Script, prints, refuses, reads, opens, runs, command_script}
@@ -54,7 +54,7 @@ Follows tells (reads name limit next) old new report said =
     ((bytes : List ℕ) × (between : FilesView) × ReadGave tells old between name limit bytes × Follows tells (next bytes) between new report said)
     ⊎ (Unread tells old new name limit report said ⊎ Stops old new report said starving)
 Follows tells (opens name bytes next) old new report said =
-    ((records : List (List ℕ)) × PcapText bytes records × Follows tells (next records) old new report said)
+    (IsCapture bytes × Follows tells next old new report said)
     ⊎ (((fault : PcapFault) × HasFault bytes fault × Stops old new report said (said_of (refused (no_capture name fault))))
     ⊎ Stops old new report said starving)
 Follows tells (runs form captures) old new report said =

@@ -5,7 +5,7 @@ use Rattle.sn_outside.specs.declared.fault.FileFault.{FileFault}
 use Rattle.sn_outside.specs.declared.fault.FileFault.TheVariants.{Failed, TooLong, OutOfMemory}
 use Rattle.sn_pcap.specs.declared.fault.PcapFault.{PcapFault}
 use Rattle.sn_pcap.specs.Faults.{HasFault}
-use Rattle.sn_pcap.specs.Grammar.{PcapText}
+use Rattle.sn_run.specs.Captures.{IsCapture}
 use Rattle.sn_run.specs.Commands.{IsCommand, IsCommandOf}
 use Rattle.sn_run.specs.Reported.{RunReport, IsRun, outcome}
 use Rattle.sn_run.specs.Scripts.{Script, prints, refuses, reads, opens, runs, command_script}
@@ -22,7 +22,7 @@ Leads (reads name limit next) m said =
     ((bytes : List ℕ) × Holds m name limit bytes × Leads (next bytes) m said)
     ⊎ (IsOver m name limit × (said ≡ said_of (unread name TooLong)))
 Leads (opens name bytes next) m said =
-    ((records : List (List ℕ)) × PcapText bytes records × Leads (next records) m said)
+    (IsCapture bytes × Leads next m said)
     ⊎ ((fault : PcapFault) × HasFault bytes fault × (said ≡ said_of (refused (no_capture name fault))))
 Leads (runs form captures) m said = (told : RunReport) × IsRun form captures told × (said ≡ said_of (finished (outcome told.left)))
 

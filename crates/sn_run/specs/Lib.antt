@@ -1,6 +1,7 @@
 pub mod ActionTexts
 pub mod Answers
 pub mod Calls
+pub mod Captures
 pub mod Commands
 pub mod Copying
 pub mod Courses

@@ -2,6 +2,7 @@
 use Rattle.std.specs.Prelude.{ℕ, ◌==◌, ◌-◌, ◌*◌, ◌≡◌, if◌then◌else◌, List, [], ◌∷◌, length, take, filter, nat_le, Bool}
 use Rattle.std.specs.FinMap.{insert}
 use Rattle.sn_outside.specs.Contents.{Contents}
+use Rattle.sn_pcap.specs.Places.{payloads_of}
 use Rattle.sn_pcap.specs.Written.{written}
 use Rattle.sn_scenario.specs.Scenarios.{ScenarioForm}
 use Rattle.sn_scenario.specs.declared.settings.Settings.{Settings}
@@ -47,11 +48,11 @@ report_of settings output records =
       left = length records - most_read settings;
     }
 
--- The report is that of a run of this scenario over captures of these records: so far, one that copies its one capture into its
--- one output.
-pub record IsRun (form : ScenarioForm) (captures : List (List (List ℕ))) (report : RunReport) : Type 0 where
-  pub records : List (List ℕ)
+-- The report is that of a run of this scenario over captures of these bytes: so far, one that copies its one capture into its one
+-- output.
+pub record IsRun (form : ScenarioForm) (captures : List (List ℕ)) (report : RunReport) : Type 0 where
+  pub bytes : List ℕ
   pub output : List ℕ
-  pub from : captures ≡ records ∷ []
+  pub from : captures ≡ bytes ∷ []
   pub to : form.outputs ≡ output ∷ []
-  pub told : report ≡ report_of form.settings output records
+  pub told : report ≡ report_of form.settings output (payloads_of bytes)

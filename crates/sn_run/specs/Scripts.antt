@@ -1,5 +1,5 @@
 -- What a command does with files, as a script: which file it reads first, and what it does next by the bytes that it gets.
-use Rattle.std.specs.Prelude.{ℕ, ◌+◌, ◌-◌, List, [], ◌∷◌, ◌++◌, Result, Ok, Err, cond, length, min, nat_lt}
+use Rattle.std.specs.Prelude.{ℕ, ◌-◌, List, [], ◌∷◌, ◌++◌, Result, Ok, Err, cond, length, min, nat_lt}
 use Rattle.sn_scenario.specs.Plans.{plan_of}
 use Rattle.sn_scenario.specs.ScenarioText.{scenario_of}
 use Rattle.sn_scenario.specs.Scenarios.{ScenarioForm}
@@ -12,14 +12,14 @@ use Rattle.sn_run.specs.declared.command.Command.{Command}
 use Rattle.sn_run.specs.declared.command.Command.TheVariants.{Run, Check, Actions}
 
 -- It ends with this text, or with this refusal; or a file is read, at most so many bytes of it, and they decide how it goes on;
--- or the bytes of a file are opened as a capture, and its records decide that; or a scenario is run over captures of these
--- records, its report's files are written in their order, and it ends with the outcome.
+-- or the bytes of a file are opened as a capture, and then it goes on; or a scenario is run over captures of these bytes, its
+-- report's files are written in their order, and it ends with the outcome.
 pub data Script : Type 0 where
   prints : List ℕ → Script
   refuses : Why → Script
   reads : List ℕ → ℕ → (List ℕ → Script) → Script
-  opens : List ℕ → List ℕ → (List (List ℕ) → Script) → Script
-  runs : ScenarioForm → List (List (List ℕ)) → Script
+  opens : List ℕ → List ℕ → Script → Script
+  runs : ScenarioForm → List (List ℕ) → Script
 
 -- the most bytes of a scenario, of a capture, and of all captures of a run
 abbrev pub most_scenario : ℕ
@@ -32,11 +32,12 @@ abbrev pub most_captures : ℕ
 most_captures = 67108864
 
 -- The captures of these names are read and opened, one after another, with so much room for their bytes, and then the scenario is
--- run over the records of these before and theirs.
-abbrev pub captures_script : ScenarioForm → List (List ℕ) → ℕ → List (List (List ℕ)) → Script
+-- run over these before and them.
+abbrev pub captures_script : ScenarioForm → List (List ℕ) → ℕ → List (List ℕ) → Script
 captures_script form [] room before = runs form before
 captures_script form (name ∷ names) room before =
-    reads name (min room most_capture) (λ bytes. opens name bytes (λ records. captures_script form names (room - length bytes) (before ++ records ∷ [])))
+    reads name (min room most_capture)
+    (λ bytes. opens name bytes (captures_script form names (room - length bytes) (before ++ bytes ∷ [])))
 
 -- a scenario that doesn't run yet is refused
 abbrev pub run_script : List ℕ → List ℕ → ScenarioForm → Script

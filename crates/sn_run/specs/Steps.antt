@@ -3,11 +3,10 @@ use Rattle.std.specs.Prelude.{ℕ, Bool, ◌≡◌, ◌⊎◌, List, [], Ok, Err
 use Rattle.sn_outside.specs.Views.{FilesView}
 use Rattle.sn_outside.specs.declared.fault.FileFault.{FileFault}
 use Rattle.sn_outside.specs.declared.fault.FileFault.TheVariants.{TooLong}
-use Rattle.sn_pcap.specs.Grammar.{PcapText}
-use Rattle.sn_pcap.specs.Places.{payloads_of}
 use Rattle.sn_scenario.specs.ScenarioText.{scenario_of}
 use Rattle.sn_scenario.specs.Scenarios.{ScenarioForm}
 use Rattle.sn_scenario.specs.declared.fault.ScenarioFault.{ScenarioFault}
+use Rattle.sn_run.specs.Captures.{IsCapture}
 use Rattle.sn_run.specs.Courses.{Follows, Stops, Finished, Unwritten}
 use Rattle.sn_run.specs.Reported.{RunReport, WrittenFile}
 use Rattle.sn_run.specs.Scripts.{Script, reads, opens, runs, captures_script, command_script, most_captures, most_scenario}
@@ -35,15 +34,15 @@ TextEnds tells old new file said = (command : Command) → Follows tells (comman
 -- one read gave this capture
 pub record GaveCapture (tells : Bool) (old new : FilesView) (name : List ℕ) (limit : ℕ) (bytes : List ℕ) : Type 0 where
   pub gave : ReadGave tells old new name limit bytes
-  pub is : PcapText bytes (payloads_of bytes)
+  pub is : IsCapture bytes
 
 -- a capture ended a command, whatever would have come next
 abbrev pub CaptureEnds : Bool → FilesView → FilesView → List ℕ → ℕ → Said → Type 0
 CaptureEnds tells old new name limit said =
-    (next : List ℕ → List (List ℕ) → Script) → Follows tells (reads name limit (λ bytes. opens name bytes (next bytes))) old new None said
+    (next : List ℕ → Script) → Follows tells (reads name limit (λ bytes. opens name bytes (next bytes))) old new None said
 
 -- what follows once these captures were read follows on their reads
-abbrev pub LeadOn : Bool → FilesView → FilesView → List (List ℕ) → List (List (List ℕ)) → Type 0
+abbrev pub LeadOn : Bool → FilesView → FilesView → List (List ℕ) → List (List ℕ) → Type 0
 LeadOn tells old new names captures =
     (form : ScenarioForm) (last : FilesView) (report : Option RunReport) (said : Said)
     → Follows tells (runs form captures) new last report said → Follows tells (captures_script form names most_captures []) old last report said

@@ -48,7 +48,7 @@ fn run_read<F: Files>(alloc: Global, scenario: &Scenario, files: &mut F) -> Answ
         Ok(captures) => captures,
         Err(refusal) => return refused(refusal),
     };
-    let Ok((outcome, report)) = run_scenario(alloc, scenario, &captures) else {
+    let Ok((outcome, report)) = run_scenario(alloc, scenario, captures) else {
         return starved(alloc);
     };
     write_report(alloc, outcome, report, files)

@@ -1,10 +1,9 @@
 //! The files that a command reads.
-ghost use Rattle.sn_pcap.specs.Places.{payloads_of};
 ghost use Rattle.sn_run.specs.Seen.{ReadGave, ReadRefused};
 ghost use Rattle.sn_run.specs.Steps.{CaptureEnds, CapturesEnd, GaveCapture, GaveText, LeadOn, RefusesText, TextEnds};
 ghost use Rattle.sn_run.specs.Texts.{SaysOrStarves, saying, unread_said};
 ghost use Rattle.sn_scenario.specs.ScenarioText.{scenario_of};
-ghost use Rattle.std.specs.Prelude.{List, ℕ, IfErr, IfOk, Ok, length, map, ◌≡◌, ◌≤◌};
+ghost use Rattle.std.specs.Prelude.{List, ℕ, IfErr, IfOk, Ok, length, ◌≡◌, ◌≤◌};
 
 use crate::Status;
 use crate::answer::{Refusal, out_of_memory, refusal_of};
@@ -132,7 +131,7 @@ pub(crate) fn read_captures<F: Files>(
 ) -> Result<Vec<Capture>, Refusal>
     ensures count { IfOk result (λ read. length read.items ≡ length names.now) }
     ensures ok { IfOk result
-        (λ read. LeadOn F.tells (F.state files.old) (F.state files.new) names.now (map payloads_of read.items)) }
+        (λ read. LeadOn F.tells (F.state files.old) (F.state files.new) names.now read.items) }
     ensures err { IfErr result
         (λ r. CapturesEnd F.tells (F.state files.old) (F.state files.new) names.now (saying r.status r.text.items)) }
 {

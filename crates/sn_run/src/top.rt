@@ -20,7 +20,7 @@ use crate::texts::USAGE;
 use crate::{Ended, Report, Status};
 use sn_names::{FileName, NameFault};
 use sn_outside::{Files, Gate, Sink};
-use sn_pcap::{no_fault, one_fault, one_reading};
+use sn_pcap::{no_fault, one_fault};
 use std::alloc::{AllocError, Global};
 use std::thread::Threads;
 
@@ -183,7 +183,6 @@ pub fn snabb_main<R: Threads + Sync, F: Files, O: Sink, G: Gate>(
     let _ = rt;
     let _ = gate;
     // The laws of captures, on which the causes rest.
-    one_reading();
     one_fault();
     no_fault();
     answer_words(alloc, words, files, out)

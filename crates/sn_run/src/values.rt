@@ -3,7 +3,7 @@ ghost use Rattle.sn_pcap.specs.Places.{payloads_of};
 ghost use Rattle.sn_run.specs.Copying.{RunsSoFar};
 ghost use Rattle.sn_run.specs.Reported.{IsRun, most_read, outcome, report_of};
 ghost use Rattle.sn_scenario.specs.Scenarios.{AreBounded};
-ghost use Rattle.std.specs.Prelude.{List, ℕ, IfOk, length, map, ◌*◌, ◌≡◌, ◌≤◌};
+ghost use Rattle.std.specs.Prelude.{List, ℕ, IfOk, length, ◌*◌, ◌≡◌, ◌≤◌};
 
 use crate::copy::copy_capture;
 use crate::outcome::outcome_of;
@@ -52,11 +52,11 @@ fn copy_report(
 pub fn run_scenario(
     alloc: Global,
     scenario: &Scenario,
-    captures: &[Capture],
+    captures: Vec<Capture>,
 ) -> Result<(Outcome, Report), AllocError>
     requires now { RunsSoFar scenario.now }
-    requires captures { length captures.now ≡ length scenario.now.captures }
-    ensures run { IfOk result (λ made. IsRun scenario.now (map payloads_of captures.now) made.1) }
+    requires captures { length captures.items ≡ length scenario.now.captures }
+    ensures run { IfOk result (λ made. IsRun scenario.now captures.items made.1) }
     ensures outcome { IfOk result (λ made. made.0 ≡ outcome made.1.left) }
 {
     let settings = scenario.settings();

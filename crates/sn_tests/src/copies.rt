@@ -198,7 +198,7 @@ fn run_of(alloc: Global, text: &[u8], bytes: Vec<u8>) -> Option<(Outcome, u64, V
     if !runs || captures.len() != read.captures().len() {
         return None;
     }
-    let Ok((outcome, report)) = run_scenario(alloc, &read, &captures) else {
+    let Ok((outcome, report)) = run_scenario(alloc, &read, captures) else {
         return None;
     };
     let mut files = report.files;

@@ -1,5 +1,3 @@
-use Rattle.std.proofs.Common.{refl, inl, ap, ◌∙◌}
-use Rattle.sn_run.specs.Courses.{Stops}
 use Rattle.sn_run.specs.declared.command.Command.TheVariants.{Check}
 use Rattle.sn_run.proofs.ScriptSteps.{answered, goes_on, prints_text, starves}
 use Rattle.sn_run.proofs.commands.check_file.Goals as goal

@@ -3,12 +3,12 @@ use Rattle.sn_run.proofs.ScriptSteps.{read_on, run_ends, starves}
 use Rattle.sn_run.proofs.commands.run_read.Goals as goal
 
 pub run_scenario-requires-clause-captures : goal.run_scenario-requires-clause-captures
-run_scenario-requires-clause-captures g c = ap length c.deref.ensures.value ∙ c.in-Ok.ensures.count ∙ ap length c.captures-2.ensures.same
+run_scenario-requires-clause-captures g c = c.in-Ok.ensures.count ∙ ap length c.captures-2.ensures.same
 
 pub returns-in_default : goal.returns-in_default
 returns-in_default g c = read_on _ _ _ _ _ _ _ _ _ _ c.captures-2.ensures.same refl c.in-Ok.ensures.ok (starves _ _ _ _ _ c.starved.ensures.report c.starved.ensures.says)
 
 pub returns : goal.returns
 returns g c =
-    read_on _ _ _ _ _ _ _ _ _ _ c.captures-2.ensures.same c.deref.ensures.value c.in-Ok.ensures.ok
+    read_on _ _ _ _ _ _ _ _ _ _ c.captures-2.ensures.same refl c.in-Ok.ensures.ok
     (run_ends _ _ _ _ _ _ _ _ c.in-Ok-run_scenario.ensures.run c.write_report.ensures)

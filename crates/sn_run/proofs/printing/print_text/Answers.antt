@@ -1,4 +1,4 @@
-use Rattle.std.proofs.Common.{arith, ◌∙◌}
+use Rattle.std.proofs.Common.{◌∙◌}
 use Rattle.sn_run.proofs.TextPieces.{piece_more, piece_within}
 use Rattle.sn_run.proofs.printing.print_text.Goals as goal
 

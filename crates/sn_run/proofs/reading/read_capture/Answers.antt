@@ -1,4 +1,4 @@
-use Rattle.std.proofs.Common.{ap, subst}
+use Rattle.std.proofs.Common.{subst}
 use Rattle.sn_run.specs.Texts.{SaysOrStarves, said_of, saying}
 use Rattle.sn_run.specs.Ways.{no_capture, refused}
 use Rattle.sn_run.proofs.ScriptSteps.{capture_ends, capture_lacks, unread_ends}

@@ -1,5 +1,5 @@
 use Rattle.std.proofs.Common.{arith, ap, length, refl, ◌∙◌}
-use Rattle.sn_run.proofs.ScriptSteps.{lead_done, lead_ends, lead_lacks, lead_on, length_more}
+use Rattle.sn_run.proofs.ScriptSteps.{lead_ends, lead_lacks, lead_on, length_more}
 use Rattle.sn_run.proofs.reading.read_captures.Goals as goal
 
 pub returns-in-Err-clause-err : goal.returns-in-Err-clause-err

@@ -1,4 +1,4 @@
-use Rattle.std.proofs.Common.{ap, ◌∙◌, refl, sym}
+use Rattle.std.proofs.Common.{ap, ◌∙◌}
 use Rattle.sn_run.proofs.WrittenFiles.{write_stops, written_more}
 use Rattle.sn_run.proofs.writing.write_files.Goals as goal
 
