@@ -1,13 +1,14 @@
 -- What the course of a call says of its answer, clause by clause.
-use Rattle.std.proofs.Common.{◌≡◌, ℕ, true, inl, inr, List, [], Option, Some, None, refl, sym, ap, ◌∙◌, subst}
+use Rattle.std.proofs.Common.{◌≡◌, ℕ, true, false, inl, inr, List, [], Option, Some, None, refl, sym, ap, ◌∙◌, subst}
 use Rattle.std.proofs.lemmas.List.{append-nil}
-use Rattle.std.specs.Prelude.{IfSome, IsSome, unwrap_or, ◌⊎◌, ◌↔◌, ◌≢◌}
+use Rattle.std.specs.Prelude.{IfSome, IsSome, is_some, unwrap_or, ◌⊎◌, ◌↔◌, ◌≢◌}
 use Rattle.sn_outside.specs.Counts.{FaultCounted}
 use Rattle.sn_pcap.specs.declared.fault.PcapFault.{PcapFault}
 use Rattle.sn_pcap.specs.Faults.{HasFault}
 use Rattle.sn_pcap.specs.Grammar.{PcapText}
 use Rattle.sn_outside.specs.declared.fault.FileFault.TheVariants.{Failed, TooLong as Long, OutOfMemory as NoMemory}
-use Rattle.sn_run.specs.Answers.{Answered, FaultsCounted, Headline, IsCaused, IsDue, IsTextOf, Leaves, Reports, ended_by}
+use Rattle.sn_run.specs.Answers.{Answered, FaultsCounted, Headline, IsCaused, IsDue, IsTextOf, Leaves, ended_by}
+use Rattle.sn_run.specs.Answers.{has_report}
 use Rattle.sn_run.specs.Calls.{CallsMade, IsOrStarved}
 use Rattle.sn_run.specs.Commands.{IsCommand}
 use Rattle.sn_run.specs.Courses.{Course}
@@ -20,21 +21,34 @@ use Rattle.sn_run.specs.Texts.{Said}
 use Rattle.sn_run.specs.Ways.{Way, no_words, unread, refused, finished, done, unwritten, starved, unprinted, way_of}
 use Rattle.sn_run.specs.declared.status.Ended.{Ended}
 use Rattle.sn_run.specs.declared.status.Status.{Status}
-use Rattle.sn_run.specs.declared.status.Status.TheVariants.{Drained, RoundsUsed, Done, BadWords, NoWorker, BadScenario, NotYet, BadPcap, ReadFault, TooLong, WriteFault, PrintFault, OutOfMemory}
+use Rattle.sn_run.specs.declared.status.Status.TheVariants.{Drained, RoundsUsed, JournalLimit, Done, BadWords, NoWorker}
+use Rattle.sn_run.specs.declared.status.Status.TheVariants.{BadScenario, NotYet, BadPcap, ReadFault, TooLong, WriteFault}
+use Rattle.sn_run.specs.declared.status.Status.TheVariants.{PrintFault, OutOfMemory}
 use Rattle.sn_run.proofs.CallLists.{makes_calls}
-use Rattle.sn_run.proofs.ScriptEnds.{HasOwnText, counts, leaves, of_script, own_text, reports}
-use Rattle.sn_run.proofs.Headlines.{headline}
+use Rattle.sn_run.proofs.ScriptEnds.{HasOwnText, counts, of_script, own_text, reports}
+use Rattle.sn_run.proofs.Headlines.{headline, ran_leaves, untouched_leaves}
+use Rattle.sn_run.proofs.RunEnds.{RanTo, Untouched, run_ends}
 use Rattle.sn_run.proofs.OneAnswer.{led, one_lead}
 use Rattle.sn_run.proofs.OneCommand.{one_asked}
 
 module _ (w : Seen) (words : List (List ℕ)) where
-  pub reports_of : (report : Option RunReport) (said : Said) → Course w words report said → Reports report said.way
-  reports_of report said (inl n) = subst (λ r. Reports r said.way) (sym n.no_report) (subst (λ s. Reports None s.way) (sym n.says) tt)
+  pub reports_of : (report : Option RunReport) (said : Said) → Course w words report said → is_some report ≡ has_report said.way
+  reports_of report said (inl n) =
+      subst (λ r. is_some r ≡ has_report said.way) (sym n.no_report) (subst (λ s. false ≡ has_report s.way) (sym n.says) refl)
   reports_of report said (inr m) = reports w.tells (command_script m.file m.command) w.old w.new report said m.follows
 
-  pub leaves_of : w.tells ≡ true → (report : Option RunReport) (said : Said) → Course w words report said → Leaves w.old.contents w.new.contents report said.way
-  leaves_of t report said (inl n) = subst (λ r. Leaves w.old.contents w.new.contents r said.way) (sym n.no_report) (ap (λ v. v.contents) n.same)
-  leaves_of t report said (inr m) = leaves w.tells t (command_script m.file m.command) w.old w.new report said m.follows
+  -- a run of what was read came to its end, or nothing was written
+  ends_of : (report : Option RunReport) (said : Said) → Course w words report said
+      → RanTo w words report said ⊎ Untouched w.tells w.old.contents w.new report
+  ends_of report said (inl n) = inr (record { none = n.no_report; kept = λ t. ap (λ v. v.contents) n.same })
+  ends_of report said (inr m) = run_ends w words m.file m.command report said m.asked m.follows
+
+  pub leaves_of : w.tells ≡ true → (report : Option RunReport) (said : Said) → Course w words report said
+      → Leaves w words report said.way
+  leaves_of t report said course = elim (ends_of report said course) [
+    | inl r ↦ ran_leaves w words report said t r
+    | inr u ↦ untouched_leaves w words report said t u
+  ]
 
   pub counts_of : (report : Option RunReport) (said : Said) → Course w words report said → FaultsCounted w.old.faults w.new.faults said.way
   counts_of report said (inl n) = subst (λ s. FaultsCounted w.old.faults w.new.faults s.way) (sym n.says) (ap (λ v. v.faults) n.same)
@@ -57,19 +71,16 @@ module _ (w : Seen) (words : List (List ℕ)) where
     | inr l ↦ inr (said.text, inr (record { file = m.file; command = m.command; asked = m.asked; leads = l }))
   ]
 
-  pub headline_of : (report : Option RunReport) (said : Said) → Course w words report said → IfSome report (Headline w words)
+  pub headline_of : (report : Option RunReport) (said : Said) → Course w words report said
+      → IfSome report (Headline w words said.way)
   headline_of report said course = by_report report refl
     where
-      of_one : (told : RunReport) → report ≡ Some told → Course w words report said → Headline w words told
-      of_one told is (inl n) = absurd (no_some report told is n.no_report)
-        where
-          no_some : (r : Option RunReport) (t : RunReport) → r ≡ Some t → r ≡ None → ⊥
-          no_some r t a b = let e : Some t ≡ None = sym a ∙ b in cc
-      of_one told is (inr m) = headline w words m.file m.command report said told is m.asked m.follows
-
-      by_report : (r : Option RunReport) → report ≡ r → IfSome r (Headline w words)
+      by_report : (r : Option RunReport) → report ≡ r → IfSome r (Headline w words said.way)
       by_report None is = tt
-      by_report (Some told) is = of_one told is course
+      by_report (Some told) is = elim (ends_of report said course) [
+        | inl ran ↦ headline w words report said told is ran
+        | inr u ↦ absurd (let e : Some told ≡ None = sym is ∙ u.none in cc)
+      ]
 
   module _ (one_fault : (bytes : List ℕ) (a b : PcapFault) → HasFault bytes a → HasFault bytes b → a ≡ b) (no_fault : (bytes : List ℕ) (records : List (List ℕ)) (fault : PcapFault) → PcapText bytes records → HasFault bytes fault → ⊥) where
     -- words and contents lead to one answer
@@ -119,6 +130,7 @@ module _ (w : Seen) (words : List (List ℕ)) where
   bad_status : (status : Status) → way_of status ≡ no_words → status ≡ BadWords
   bad_status Drained e = cc
   bad_status (RoundsUsed n) e = cc
+  bad_status (JournalLimit n) e = cc
   bad_status Done e = cc
   bad_status BadWords e = refl
   bad_status (NoWorker n) e = cc

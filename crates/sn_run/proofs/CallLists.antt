@@ -10,11 +10,14 @@ use Rattle.sn_outside.specs.declared.files.CallKind.TheVariants.{Read, Write}
 use Rattle.sn_outside.specs.declared.files.FileCall.{FileCall}
 use Rattle.sn_run.specs.Calls.{AreCalls, EndsUnwritten, IsOrStarved, unread_way}
 use Rattle.sn_run.specs.Courses.{Follows, SaysUnwritten, Unwritten}
+use Rattle.sn_scenario.specs.Scenarios.{ScenarioForm}
 use Rattle.sn_run.specs.Reported.{IsRun, RunReport}
 use Rattle.sn_run.specs.Scripts.{Script, prints, refuses, reads, opens, runs}
 use Rattle.sn_run.specs.Seen.{a_read, write_call}
 use Rattle.sn_run.specs.Texts.{Said, SaysOrStarves, starving, unread_said}
 use Rattle.sn_run.specs.Ways.{starved}
+use Rattle.sn_run.specs.Written.{written_files}
+use Rattle.sn_run.specs.declared.outcome.Outcome.{Outcome}
 
 -- calls that were made, and whose they are
 pub record MakesCalls (tells : Bool) (s : Script) (old new : FilesView) (said : Said) : Type 0 where
@@ -48,12 +51,19 @@ none_called : (old new : FilesView) → new ≡ old → new.calls ≡ old.calls 
 none_called old new same = ap (λ v. v.calls) same ∙ sym (append-nil old.calls)
 
 module _ (tells : Bool) where
-  unwritten_calls : (form : _) (captures : List (List ℕ)) (old new : FilesView) (told : RunReport) (report : Option RunReport) (said : Said) → IsRun form captures told → Unwritten tells old new told report said → MakesCalls tells (runs form captures) old new said
+  unwritten_calls : (form : ScenarioForm) (captures : List (List ℕ)) (old new : FilesView) (ran : Outcome) (told : RunReport)
+      (report : Option RunReport) (said : Said) → IsRun form captures ran told
+      → Unwritten tells old new (written_files form told) told report said
+      → MakesCalls tells (runs form captures) old new said
   unfolding AreCalls
-  unwritten_calls form captures old new told report said run u = record {
+  unwritten_calls form captures old new ran told report said run u = record {
     calls = with_call (map write_call u.up_to.front) Write u.file.name (Err u.fault);
-    told = λ t. u.up_to.refused.called t ∙ ap (λ cs. with_call cs Write u.file.name (Err u.fault)) (u.up_to.written.called t) ∙ call_on old.calls (map write_call u.up_to.front) Write u.file.name u.fault;
+    told = λ t.
+        u.up_to.refused.called t
+        ∙ ap (λ cs. with_call cs Write u.file.name (Err u.fault)) (u.up_to.written.called t)
+        ∙ call_on old.calls (map write_call u.up_to.front) Write u.file.name u.fault;
     are = inl (
+      ran,
       told,
       run,
       inr (record {
@@ -90,10 +100,12 @@ module _ (tells : Bool) where
       record { calls = rest.calls; told = rest.told; are = inl (g.0, rest.are) }
   makes_calls (opens name bytes next) old new report said (inr (inl h)) = record { calls = []; told = λ t. none_called old new h.2.same; are = inr (inl (h.0, h.1, refl, way_says said _ h.2.says)) }
   makes_calls (opens name bytes next) old new report said (inr (inr st)) = record { calls = []; told = λ t. none_called old new st.same; are = inr (inr (refl, only_starved said st.says)) }
-  makes_calls (runs form captures) old new report said (inl (told, run, inl f)) = record {
-    calls = map write_call told.files;
+  makes_calls (runs form captures) old new report said (inl (ran, told, run, inl f)) = record {
+    calls = map write_call (written_files form told);
     told = f.written.called;
-    are = inl (told, run, inl (refl, ap (λ s. s.way) f.says));
+    are = inl (ran, told, run, inl (refl, ap (λ s. s.way) f.says));
   }
-  makes_calls (runs form captures) old new report said (inl (told, run, inr u)) = unwritten_calls form captures old new told report said run u
-  makes_calls (runs form captures) old new report said (inr st) = record { calls = []; told = λ t. none_called old new st.same; are = inr (refl, only_starved said st.says) }
+  makes_calls (runs form captures) old new report said (inl (ran, told, run, inr u)) =
+      unwritten_calls form captures old new ran told report said run u
+  makes_calls (runs form captures) old new report said (inr st) =
+      record { calls = []; told = λ t. none_called old new st.same; are = inr (refl, only_starved said st.says) }

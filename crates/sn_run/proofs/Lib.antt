@@ -6,6 +6,7 @@ pub mod Lines
 pub mod Numbers
 pub mod OneAnswer
 pub mod OneCommand
+pub mod RunEnds
 pub mod ScriptEnds
 pub mod ScriptSteps
 pub mod TextPieces

@@ -15,6 +15,7 @@ use Rattle.sn_run.specs.Expectations.{IsOutside, Leads}
 use Rattle.sn_run.specs.Reported.{IsRun, RunReport, outcome, report_of}
 use Rattle.sn_run.specs.Scripts.{Script, prints, refuses, reads, opens, runs}
 use Rattle.sn_run.specs.Seen.{Holds, IsOver, ReadRefused}
+use Rattle.sn_run.specs.declared.outcome.Outcome.{Outcome}
 use Rattle.sn_run.specs.Texts.{Said, SaysOrStarves, said_of, starving, unread_said}
 use Rattle.sn_run.specs.Ways.{refused, finished, no_capture}
 
@@ -51,8 +52,8 @@ module _ (tells : Bool) (t : tells ≡ true) where
   led (opens name bytes next) old new report said (inl g) = elim (led next old new report said g.1) [ inl o ↦ inl o | inr l ↦ inr (inl (g.0, l)) ]
   led (opens name bytes next) old new report said (inr (inl h)) = said_led (opens name bytes next) old.contents said _ h.2.says (inr (inr (h.0, h.1, refl)))
   led (opens name bytes next) old new report said (inr (inr st)) = said_led (opens name bytes next) old.contents said starving st.says (inl tt)
-  led (runs form captures) old new report said (inl (told, run, inl f)) = inr (told, run, f.says)
-  led (runs form captures) old new report said (inl (told, run, inr u)) = unwritten_led (runs form captures) old.contents u.fault u.file.name told report said u.says
+  led (runs form captures) old new report said (inl (ran, told, run, inl f)) = inr (ran, told, run, f.says)
+  led (runs form captures) old new report said (inl (ran, told, run, inr u)) = unwritten_led (runs form captures) old.contents u.fault u.file.name told report said u.says
   led (runs form captures) old new report said (inr st) = said_led (runs form captures) old.contents said starving st.says (inl tt)
 
 -- a file holds one text
@@ -65,12 +66,18 @@ never_over m name limit bytes x y =
     let over : limit < Rattle.std.proofs.Common.length bytes = subst (λ o. IsSomeAnd o (λ b. limit < Rattle.std.proofs.Common.length b)) x.held y.over in
     omega (arith, over, x.short)
 
--- a run leaves one report
-one_run : (form : ScenarioForm) (captures : List (List ℕ)) (a b : RunReport) → IsRun form captures a → IsRun form captures b → a ≡ b
-one_run form captures a b x y =
-    let bytes : x.bytes ≡ y.bytes = same_only x.bytes y.bytes (sym x.from ∙ y.from) in
-    let output : x.output ≡ y.output = same_only x.output y.output (sym x.to ∙ y.to) in
-    x.told ∙ ap (λ o. report_of form.settings o (payloads_of x.bytes)) output ∙ ap (λ b. report_of form.settings y.output (payloads_of b)) bytes ∙ sym y.told
+-- a run has one outcome and one report
+one_run : (form : ScenarioForm) (captures : List (List ℕ)) (x y : Outcome) (a b : RunReport) → IsRun form captures x a
+    → IsRun form captures y b → (x ≡ y) × (a ≡ b)
+one_run form captures x y a b r s =
+    let bytes : r.bytes ≡ s.bytes = same_only r.bytes s.bytes (sym r.from ∙ s.from) in
+    let output : r.output ≡ s.output = same_only r.output s.output (sym r.to ∙ s.to) in
+    let told : a ≡ b =
+    r.told
+    ∙ ap (λ o. report_of form.settings o (payloads_of r.bytes)) output
+    ∙ ap (λ c. report_of form.settings s.output (payloads_of c)) bytes
+    ∙ sym s.told in
+    (r.ended ∙ ap (λ t. outcome t.left) told ∙ sym s.ended, told)
   where
     same_only : {A : Type 0} (x y : A) → x ∷ [] ≡ y ∷ [] → x ≡ y
     same_only x y e = cc
@@ -88,4 +95,5 @@ module _ (one_fault : (bytes : List ℕ) (a b : PcapFault) → HasFault bytes a 
   one_lead (opens name bytes next) m a b (inl x) (inr y) = absurd (no_fault bytes x.0.records y.0 x.0.text y.1)
   one_lead (opens name bytes next) m a b (inr x) (inl y) = absurd (no_fault bytes y.0.records x.0 y.0.text x.1)
   one_lead (opens name bytes next) m a b (inr x) (inr y) = x.2 ∙ ap (λ f. said_of (refused (no_capture name f))) (one_fault bytes x.0 y.0 x.1 y.1) ∙ sym y.2
-  one_lead (runs form captures) m a b x y = x.2 ∙ ap (λ r. said_of (finished (outcome r.left))) (one_run form captures x.0 y.0 x.1 y.1) ∙ sym y.2
+  one_lead (runs form captures) m a b x y =
+      x.3 ∙ ap (λ o. said_of (finished o)) (one_run form captures x.0 y.0 x.1 y.1 x.2 y.2).0 ∙ sym y.3

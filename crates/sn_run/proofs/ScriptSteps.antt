@@ -12,14 +12,16 @@ use Rattle.sn_scenario.specs.ScenarioText.{scenario_of}
 use Rattle.sn_scenario.specs.Scenarios.{ScenarioForm}
 use Rattle.sn_run.specs.ActionTexts.{actions_text}
 use Rattle.sn_run.specs.Copying.{runs_now}
-use Rattle.sn_run.specs.Courses.{Follows}
-use Rattle.sn_run.specs.Reported.{RunReport, IsRun}
+use Rattle.sn_run.specs.Courses.{EndsWritten, Follows}
+use Rattle.sn_run.specs.Reported.{RunReport, IsRun, WrittenFile}
 use Rattle.sn_run.specs.Scripts.{Script, prints, refuses, reads, opens, runs, actions_script, captures_script, command_script, form_script, run_script, text_script, most_capture, most_captures, most_scenario}
 use Rattle.sn_run.specs.Seen.{ReadGave, ReadRefused}
 use Rattle.sn_run.specs.Steps.{CaptureEnds, CapturesEnd, EndsRun, GaveCapture, GaveText, LeadOn, RefusesText, TextEnds}
 use Rattle.sn_run.specs.Texts.{Said, SaysOrStarves, said_of, starving, unread_said}
 use Rattle.sn_run.specs.Ways.{Why, done, refused, no_capture, no_worker, not_yet}
+use Rattle.sn_run.specs.Written.{written_files}
 use Rattle.sn_run.specs.declared.command.Command.{Command}
+use Rattle.sn_run.specs.declared.outcome.Outcome.{Outcome}
 
 -- memory may lack at every step of a script
 pub starves : (s : Script) (tells : Bool) (v : FilesView) (report : Option RunReport) (said : Said) → report ≡ None → said ≡ starving → Follows tells s v v report said
@@ -70,9 +72,15 @@ module _ (tells : Bool) (old new : FilesView) where
   capture_lacks name limit bytes said gave lacks next = inl (bytes, new, gave, inr (inr (record { same = refl; none = refl; says = inl lacks })))
 
   -- a run goes on once its captures were read
-  pub run_ends : (form : ScenarioForm) (captures : List (List ℕ)) (told : RunReport) (report : Option RunReport) (said : Said) → IsRun form captures told → EndsRun tells old new told report said → Follows tells (runs form captures) old new report said
+  pub run_ends : (form : ScenarioForm) (captures : List (List ℕ)) (ran : Outcome) (told : RunReport)
+      (report : Option RunReport) (said : Said) (files : List WrittenFile) → IsRun form captures ran told
+      → files ≡ written_files form told → EndsRun tells old new files ran told report said
+      → Follows tells (runs form captures) old new report said
   unfolding Follows
-  run_ends form captures told report said run ends = elim ends [ inl e ↦ inl (told, run, e) | inr stops ↦ inr stops ]
+  run_ends form captures ran told report said files run files_are ends = elim ends [
+    | inl e ↦ inl (ran, told, run, subst (λ fs. EndsWritten tells old new fs ran told report said) files_are e)
+    | inr stops ↦ inr stops
+  ]
 
 -- what is left of the captures' script, once so many were read
 abbrev pub left_script : ScenarioForm → List (List ℕ) → ℕ → ℕ → List (List ℕ) → Script

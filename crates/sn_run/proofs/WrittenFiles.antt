@@ -1,6 +1,8 @@
 -- Files written one after another.
 use Rattle.std.proofs.Common.{◌≡◌, ℕ, ◌+◌, ◌<◌, Bool, true, List, [], ◌∷◌, ◌++◌, Ok, length, map, take, drop, Option, Some, None, inl, inr, arith, refl, sym, ap, ◌∙◌, subst, append_assoc}
-use Rattle.std.proofs.lemmas.List.{drop_more, get_or-map, length-map, map-append, take-append-drop, take_more}
+use Rattle.std.proofs.lemmas.List.{drop_more, get_or-append-add, get_or-map, get_or_append_left, length-append, length-map}
+use Rattle.std.proofs.lemmas.List.{map-append, take-append-drop, take-append-le, take_more}
+use Rattle.std.proofs.Math.Seq.{take-append-add}
 use Rattle.std.specs.FinMap.{insert}
 use Rattle.std.specs.Prelude.{Result, Err, get_or}
 use Rattle.sn_outside.specs.Contents.{Contents}
@@ -9,9 +11,9 @@ use Rattle.sn_outside.specs.Told.{ToldWrite}
 use Rattle.sn_outside.specs.Views.{FilesView}
 use Rattle.sn_outside.specs.declared.fault.FileFault.{FileFault}
 use Rattle.sn_outside.specs.declared.fault.FileFault.TheVariants.{Failed, TooLong, OutOfMemory}
-use Rattle.sn_run.specs.Reported.{RunReport, WrittenFile, outcome, with_files}
+use Rattle.sn_run.specs.Reported.{RunReport, WrittenFile, with_files}
 use Rattle.sn_run.specs.Seen.{Written, WrittenUpTo, WriteRefused, write_call}
-use Rattle.sn_run.specs.Steps.{EndsRun, PreparedFor, WriteStops}
+use Rattle.sn_run.specs.Steps.{EndsRun, PreparedFor, WriteStops, prepared, unwritten_all}
 use Rattle.sn_run.specs.Texts.{Said, said_of, saying, starving}
 use Rattle.sn_run.specs.Ways.{finished, unwritten}
 use Rattle.sn_run.specs.declared.answer.Refusal.{Refusal}
@@ -83,6 +85,50 @@ write_stops tells old now new files at file within here before name bytes fault 
   within = within;
 }
 
+-- files were written, and then others behind them
+pub both_written : (tells : Bool) (old now new : FilesView) (front behind : List WrittenFile) → Written tells old now front
+    → Written tells now new behind → Written tells old new (front ++ behind)
+both_written tells old now new front behind first second = record {
+  contents = λ t.
+      second.contents t
+      ∙ ap (λ m. with_files m behind) (first.contents t)
+      ∙ sym (with_both old.contents front behind);
+  called = λ t.
+      second.called t
+      ∙ ap (λ cs. cs ++ map write_call behind) (first.called t)
+      ∙ append_assoc old.calls (map write_call front) (map write_call behind)
+      ∙ ap (λ cs. old.calls ++ cs) (sym (map-append write_call front behind));
+  still = second.still ∙ first.still;
+}
+
+-- a file of some was not written, and others would follow them
+pub stops_before : (tells : Bool) (old new : FilesView) (front behind : List WrittenFile) (at : ℕ) (fault : FileFault)
+    → WriteStops tells old new front at fault → WriteStops tells old new (front ++ behind) at fault
+stops_before tells old new front behind at fault s = record {
+  file = s.file;
+  within = omega (arith, s.within, length-append front behind);
+  here = s.here ∙ sym (get_or_append_left front behind s.file at s.within);
+  between = s.between;
+  written = subst (Written tells old s.between) (sym (take-append-le at front behind (omega (arith, s.within)))) s.written;
+  refused = s.refused;
+  never_long = s.never_long;
+}
+
+-- some files were written, and one of those behind them was not
+pub stops_behind : (tells : Bool) (old now new : FilesView) (front behind : List WrittenFile) (at : ℕ) (fault : FileFault)
+    → Written tells old now front → WriteStops tells now new behind at fault
+    → WriteStops tells old new (front ++ behind) (length front + at) fault
+stops_behind tells old now new front behind at fault first s = record {
+  file = s.file;
+  within = omega (arith, s.within, length-append front behind);
+  here = s.here ∙ sym (get_or-append-add front behind at s.file);
+  between = s.between;
+  written = subst (Written tells old s.between) (sym (take-append-add front behind at))
+      (both_written tells old now s.between front (take at behind) first s.written);
+  refused = s.refused;
+  never_long = s.never_long;
+}
+
 -- as many answers as files were made
 pub prepared_for : (answers : List Refusal) (files : List WrittenFile) → PreparedFor answers files → length answers ≡ length files
 prepared_for answers files prepared = sym (length-map answers (λ (r : Refusal). saying r.status r.text.items)) ∙ ap length prepared ∙ length-map files (λ (f : WrittenFile). said_of (unwritten f.name))
@@ -96,49 +142,77 @@ prepared_at answers files at file answer prepared within here is =
     ∙ get_or-map (λ (f : WrittenFile). said_of (unwritten f.name)) files at file (said_of (unwritten file.name)) within
     ∙ ap (λ (f : WrittenFile). said_of (unwritten f.name)) (sym here)
 
--- one answer more
-pub prepared_more : (answers more : List Refusal) (files : List WrittenFile) (at : ℕ) (file : WrittenFile) (answer : Refusal) → at < length files → file ≡ get_or files at file → PreparedFor answers (take at files) → saying answer.status answer.text.items ≡ said_of (unwritten file.name) → more ≡ answers ++ answer ∷ [] → PreparedFor more (take (at + 1) files)
-prepared_more answers more files at file answer within here prepared says more_is =
-    ap (map (λ (r : Refusal). saying r.status r.text.items)) more_is
-    ∙ map-append (λ (r : Refusal). saying r.status r.text.items) answers (answer ∷ [])
-    ∙ ap (λ (l : List Said). l ++ saying answer.status answer.text.items ∷ []) prepared
-    ∙ ap (λ (s : Said). map (λ (f : WrittenFile). said_of (unwritten f.name)) (take at files) ++ s ∷ []) says
-    ∙ sym (map-append (λ (f : WrittenFile). said_of (unwritten f.name)) (take at files) (file ∷ []))
-    ∙ ap (map (λ (f : WrittenFile). said_of (unwritten f.name))) (sym (take_more files at file within ∙ ap (λ (f : WrittenFile). take at files ++ f ∷ []) (sym here)))
-
-module _ (tells : Bool) (old new : FilesView) (told : RunReport) (at : ℕ) where
-  up_to : (fault : FileFault) (stops : WriteStops tells old new told.files at fault) → WrittenUpTo tells old new told.files stops.file fault
+module _ (tells : Bool) (old new : FilesView) (files : List WrittenFile) (ran : Outcome) (told : RunReport) (at : ℕ) where
+  up_to : (fault : FileFault) (stops : WriteStops tells old new files at fault) → WrittenUpTo tells old new files stops.file fault
   up_to fault stops = record {
-    front = take at told.files;
-    behind = drop (at + 1) told.files;
-    files_are = split_at told.files at stops.file stops.within stops.here;
+    front = take at files;
+    behind = drop (at + 1) files;
+    files_are = split_at files at stops.file stops.within stops.here;
     between = stops.between;
     written = stops.written;
     refused = stops.refused;
   }
 
   -- a run of which a file was not written
-  pub unwritten_ends : (answers : List Refusal) (answer : Refusal) (fault : FileFault) (report : Option RunReport) (said : Said) → fault ≡ Failed → (files written : List WrittenFile) → files ≡ told.files → written ≡ told.files → WriteStops tells old new written at fault → PreparedFor answers files → answer ≡ get_or answers at answer → said ≡ saying answer.status answer.text.items → report ≡ Some told → EndsRun tells old new told report said
-  unwritten_ends answers answer fault report said failed files written files_are written_are stops prepared_files here says is =
-      let stopped : WriteStops tells old new told.files at Failed = subst (WriteStops tells old new told.files at) failed (subst (λ fs. WriteStops tells old new fs at fault) written_are stops) in
-      let prepared : PreparedFor answers told.files = subst (PreparedFor answers) files_are prepared_files in
+  pub unwritten_ends : (answers : List Refusal) (answer : Refusal) (fault : FileFault) (report : Option RunReport) (said : Said)
+      → fault ≡ Failed → WriteStops tells old new files at fault → PreparedFor answers files → answer ≡ get_or answers at answer
+      → said ≡ saying answer.status answer.text.items → report ≡ Some told → EndsRun tells old new files ran told report said
+  unwritten_ends answers answer fault report said failed stops prepared_files here says is =
+      let stopped : WriteStops tells old new files at Failed = subst (WriteStops tells old new files at) failed stops in
       inl (inr (record {
         file = stopped.file;
         fault = Failed;
         up_to = up_to Failed stopped;
-        says = (is, says ∙ prepared_at answers told.files at stopped.file answer prepared stopped.within stopped.here here);
+        says = (is, says ∙ prepared_at answers files at stopped.file answer prepared_files stopped.within stopped.here here);
       }))
 
   -- or of which memory lacked for one
-  pub lacking_ends : (fault : FileFault) (report : Option RunReport) (said : Said) → fault ≡ OutOfMemory → (written : List WrittenFile) → written ≡ told.files → WriteStops tells old new written at fault → said ≡ starving → report ≡ None → EndsRun tells old new told report said
-  lacking_ends fault report said lacks written written_are stops says none =
-      let stopped : WriteStops tells old new told.files at OutOfMemory = subst (WriteStops tells old new told.files at) lacks (subst (λ fs. WriteStops tells old new fs at fault) written_are stops) in
+  pub lacking_ends : (fault : FileFault) (report : Option RunReport) (said : Said) → fault ≡ OutOfMemory
+      → WriteStops tells old new files at fault → said ≡ starving → report ≡ None
+      → EndsRun tells old new files ran told report said
+  lacking_ends fault report said lacks stops says none =
+      let stopped : WriteStops tells old new files at OutOfMemory = subst (WriteStops tells old new files at) lacks stops in
       inl (inr (record { file = stopped.file; fault = OutOfMemory; up_to = up_to OutOfMemory stopped; says = (none, says) }))
 
+-- the same for a report's files and those behind them
+module _ (tells : Bool) (old new : FilesView) (behind : List WrittenFile) (ran : Outcome) (told : RunReport) (at : ℕ)
+    (fault : FileFault) (report : Option RunReport) (said : Said) (written : List WrittenFile) (written_are : written ≡ told.files)
+    (stops : WriteStops tells old new (written ++ behind) at fault) where
+  stops_at : WriteStops tells old new (told.files ++ behind) at fault
+  stops_at = subst (λ fs. WriteStops tells old new (fs ++ behind) at fault) written_are stops
+
+  pub report_unwritten : (answers : List Refusal) (answer : Refusal) (files : List WrittenFile) → fault ≡ Failed
+      → files ≡ told.files → PreparedFor answers (files ++ behind) → answer ≡ get_or answers at answer
+      → said ≡ saying answer.status answer.text.items → report ≡ Some told
+      → EndsRun tells old new (told.files ++ behind) ran told report said
+  report_unwritten answers answer files failed files_are prepared_files here says is =
+      unwritten_ends tells old new (told.files ++ behind) ran told at answers answer fault report said failed stops_at
+      (subst (λ fs. PreparedFor answers (fs ++ behind)) files_are prepared_files) here says is
+
+  pub report_lacking : fault ≡ OutOfMemory → said ≡ starving → report ≡ None
+      → EndsRun tells old new (told.files ++ behind) ran told report said
+  report_lacking lacks says none =
+      lacking_ends tells old new (told.files ++ behind) ran told at fault report said lacks stops_at says none
+
+-- what is prepared for one file more
+pub prepared_more : (into answers : List Refusal) (before : List Said) (files : List WrittenFile) (at : ℕ) (file : WrittenFile)
+    (answer : Refusal) → at < length files → file ≡ get_or files at file → prepared into ≡ before ++ unwritten_all (take at files)
+    → saying answer.status answer.text.items ≡ said_of (unwritten file.name) → answers ≡ into ++ answer ∷ []
+    → prepared answers ≡ before ++ unwritten_all (take (at + 1) files)
+prepared_more into answers before files at file answer within here so_far says more_is =
+    ap prepared more_is
+    ∙ map-append (λ (r : Refusal). saying r.status r.text.items) into (answer ∷ [])
+    ∙ ap (λ (l : List Said). l ++ saying answer.status answer.text.items ∷ []) so_far
+    ∙ append_assoc before (unwritten_all (take at files)) (saying answer.status answer.text.items ∷ [])
+    ∙ ap (λ (l : List Said). before ++ l)
+    (ap (λ (s : Said). unwritten_all (take at files) ++ s ∷ []) says
+    ∙ sym (map-append (λ (f : WrittenFile). said_of (unwritten f.name)) (take at files) (file ∷ []))
+    ∙ ap unwritten_all (sym (take_more files at file within
+    ∙ ap (λ (f : WrittenFile). take at files ++ f ∷ []) (sym here))))
+
 -- a run that came to its end
-pub finished_ends : (tells : Bool) (old new : FilesView) (told : RunReport) (report : Option RunReport) (said made : Said) (ran : Outcome) (files : List WrittenFile) → files ≡ told.files → Written tells old new files → report ≡ Some told → said ≡ made → made ≡ said_of (finished ran) → ran ≡ outcome told.left → EndsRun tells old new told report said
-finished_ends tells old new told report said made ran files files_are written is says made_is ran_is = inl (inl (record {
-  written = subst (Written tells old new) files_are written;
-  is = is;
-  says = says ∙ made_is ∙ ap (λ o. said_of (finished o)) ran_is;
-}))
+pub finished_ends : (tells : Bool) (old new : FilesView) (files : List WrittenFile) (told : RunReport)
+    (report : Option RunReport) (said made : Said) (ran : Outcome) → Written tells old new files → report ≡ Some told
+    → said ≡ made → made ≡ said_of (finished ran) → EndsRun tells old new files ran told report said
+finished_ends tells old new files told report said made ran written is says made_is =
+    inl (inl (record { written = written; is = is; says = says ∙ made_is }))

@@ -1,5 +1,5 @@
 -- What the top call says of its answer.
-use Rattle.std.specs.Prelude.{ℕ, Bool, true, ◌-◌, ◌≡◌, ◌≢◌, ◌⊎◌, ◌≤◌, List, [], ◌∷◌, ◌++◌, Ok, Option, Some, None, length, min, unwrap_or}
+use Rattle.std.specs.Prelude.{ℕ, Bool, true, false, ◌-◌, ◌≡◌, ◌≢◌, ◌⊎◌, ◌≤◌, List, [], ◌∷◌, ◌++◌, Ok, Option, Some, None, length, min, unwrap_or}
 use Rattle.std.specs.FinMap.{get}
 use Rattle.sn_outside.specs.Contents.{Contents}
 use Rattle.sn_outside.specs.Counts.{FaultCounted}
@@ -13,12 +13,14 @@ use Rattle.sn_run.specs.Copying.{runs_now}
 use Rattle.sn_run.specs.Courses.{Course}
 use Rattle.sn_run.specs.Expectations.{Expected, IsExpected, IsOutside}
 use Rattle.sn_run.specs.Printed.{Sunk, TookAll, TookFront}
-use Rattle.sn_run.specs.Reported.{RunReport, WrittenFile, IsRun, outcome, with_files}
+use Rattle.sn_run.specs.Reported.{RunReport, WrittenFile, IsRun, with_files}
 use Rattle.sn_run.specs.Scripts.{most_capture, most_captures, most_scenario}
 use Rattle.sn_run.specs.Seen.{Seen, Found}
 use Rattle.sn_run.specs.Texts.{Said, way_text}
 use Rattle.sn_run.specs.Ways.{Way, way_of, no_words, unread, refused, finished, done, unwritten, starved, unprinted}
+use Rattle.sn_run.specs.Written.{written_files}
 use Rattle.sn_run.specs.declared.command.Command.TheVariants.{Run}
+use Rattle.sn_run.specs.declared.outcome.Outcome.{Outcome}
 use Rattle.sn_run.specs.declared.status.Ended.{Ended}
 use Rattle.sn_run.specs.declared.status.Status.{Status}
 use Rattle.sn_run.specs.declared.status.Status.TheVariants.{PrintFault}
@@ -47,35 +49,34 @@ HasCaptures tells m room (name ∷ names) (bytes ∷ captures) =
     × IsCapture bytes
     × HasCaptures tells m (room - length bytes) names captures
 
--- The report is that of a run of the scenario that this call read, over the captures that it read.
-pub record Headline (w : Seen) (words : List (List ℕ)) (report : RunReport) : Type 0 where
+-- The scenario that this call read was run over the captures that it read, and ended so, with this report.
+pub record Ran (w : Seen) (words : List (List ℕ)) (form : ScenarioForm) (ran : Outcome) (report : RunReport) : Type 0 where
   pub file : List ℕ
   pub asked : IsCommandOf words file Run
   pub text : List ℕ
-  pub form : ScenarioForm
   pub scenario : HasScenario w file text form
   pub captures : List (List ℕ)
   pub held : HasCaptures w.tells w.old.contents most_captures form.captures captures
-  pub run : IsRun form captures report
+  pub run : IsRun form captures ran report
 
--- there is a report just where a run came to its end or a file of it was not written, and this is how the way follows from it
-abbrev pub Reports : Option RunReport → Way → Type 0
-Reports (Some report) no_words = ⊥
-Reports (Some report) (unread name fault) = ⊥
-Reports (Some report) (refused why) = ⊥
-Reports (Some report) (finished outcome_is) = outcome_is ≡ outcome report.left
-Reports (Some report) done = ⊥
-Reports (Some report) (unwritten name) = Unit {0}
-Reports (Some report) starved = ⊥
-Reports (Some report) unprinted = ⊥
-Reports None no_words = Unit {0}
-Reports None (unread name fault) = Unit {0}
-Reports None (refused why) = Unit {0}
-Reports None (finished outcome_is) = ⊥
-Reports None done = Unit {0}
-Reports None (unwritten name) = ⊥
-Reports None starved = Unit {0}
-Reports None unprinted = Unit {0}
+-- a command ends so after a run that ended so: all files of the run were written, or one was not
+abbrev pub EndsBy : Outcome → Way → Type 0
+EndsBy ran (finished outcome) = outcome ≡ ran
+EndsBy ran (unwritten name) = Unit {0}
+EndsBy ran way = ⊥
+
+-- the report is that of a run of what was read, and the way follows from that run's outcome
+pub record Headline (w : Seen) (words : List (List ℕ)) (way : Way) (report : RunReport) : Type 0 where
+  pub form : ScenarioForm
+  pub ran : Outcome
+  pub run : Ran w words form ran report
+  pub ends : EndsBy ran way
+
+-- the ways with a report: a run came to its end, or a file of it was not written
+abbrev pub has_report : Way → Bool
+has_report (finished outcome) = true
+has_report (unwritten name) = true
+has_report way = false
 
 -- the files before this one were written, it may hold anything, and all others are as before
 pub record StopsAt (before after : Contents) (files : List WrittenFile) (name : List ℕ) : Type 0 where
@@ -86,17 +87,35 @@ pub record StopsAt (before after : Contents) (files : List WrittenFile) (name : 
   pub named : name ≡ file.name
   pub others : (other : List ℕ) → (other ≡ name → ⊥) → get after other ≡ get (with_files before front) other
 
--- what the files hold afterwards: with a report its own, all or up to the one that was not written; without one what they held
-abbrev pub Leaves : Contents → Contents → Option RunReport → Way → Type 0
-Leaves before after (Some report) no_words = ⊥
-Leaves before after (Some report) (unread name fault) = ⊥
-Leaves before after (Some report) (refused why) = ⊥
-Leaves before after (Some report) (finished outcome_is) = after ≡ with_files before report.files
-Leaves before after (Some report) done = ⊥
-Leaves before after (Some report) (unwritten name) = StopsAt before after report.files name
-Leaves before after (Some report) starved = ⊥
-Leaves before after (Some report) unprinted = ⊥
-Leaves before after None way = after ≡ before
+-- what these files leave by the way: all were written, or those up to the one that was not
+abbrev pub LeftBy : Contents → Contents → List WrittenFile → Way → Type 0
+LeftBy before after files (finished outcome) = after ≡ with_files before files
+LeftBy before after files (unwritten name) = StopsAt before after files name
+LeftBy before after files way = ⊥
+
+-- with a report: the files of its run were written, all or up to the one that was not
+pub record LeavesRun (w : Seen) (words : List (List ℕ)) (way : Way) (report : RunReport) : Type 0 where
+  pub form : ScenarioForm
+  pub ran : Outcome
+  pub run : Ran w words form ran report
+  pub left : LeftBy w.old.contents w.new.contents (written_files form report) way
+
+-- where memory lacked for a write: the files of a run before that one were written
+pub record LeavesFront (w : Seen) (words : List (List ℕ)) (way : Way) : Type 0 where
+  pub lacks : way ≡ starved
+  pub form : ScenarioForm
+  pub ran : Outcome
+  pub report : RunReport
+  pub run : Ran w words form ran report
+  pub front : List WrittenFile
+  pub behind : List WrittenFile
+  pub files_are : written_files form report ≡ front ++ behind
+  pub left : w.new.contents ≡ with_files w.old.contents front
+
+-- what the files hold afterwards
+abbrev pub Leaves : Seen → List (List ℕ) → Option RunReport → Way → Type 0
+Leaves w words (Some report) way = LeavesRun w words way report
+Leaves w words None way = (w.new.contents ≡ w.old.contents) ⊎ LeavesFront w words way
 
 -- the files' count of faults, by the way in which the command ended: a fault was counted, or the count stands still; for want of
 -- memory it may be either

@@ -9,11 +9,13 @@ use Rattle.sn_pcap.specs.declared.fault.PcapFault.{PcapFault}
 use Rattle.sn_pcap.specs.Faults.{HasFault}
 use Rattle.sn_run.specs.Captures.{IsCapture}
 use Rattle.sn_run.specs.Commands.{IsCommand, IsCommandOf}
-use Rattle.sn_run.specs.Reported.{RunReport, WrittenFile, IsRun, outcome}
+use Rattle.sn_run.specs.Reported.{RunReport, WrittenFile, IsRun}
 use Rattle.sn_run.specs.Scripts.{Script, prints, refuses, reads, opens, runs, command_script}
 use Rattle.sn_run.specs.Seen.{Seen, a_read, write_call}
 use Rattle.sn_run.specs.Ways.{Way, no_words, unread, refused, finished, done, unwritten, starved, no_capture}
+use Rattle.sn_run.specs.Written.{written_files}
 use Rattle.sn_run.specs.declared.command.Command.{Command}
+use Rattle.sn_run.specs.declared.outcome.Outcome.{Outcome}
 
 -- the way is this one, or memory lacked
 abbrev pub IsOrStarved : Way → Way → Type 0
@@ -41,8 +43,8 @@ pub record AreWritesUpTo (files : List WrittenFile) (calls : List FileCall) (way
   pub ends : EndsUnwritten fault file.name way
 
 -- the files are written, all or up to the first that is refused
-abbrev pub AreWrites : RunReport → List FileCall → Way → Type 0
-AreWrites told calls way = ((calls ≡ map write_call told.files) × (way ≡ finished (outcome told.left))) ⊎ AreWritesUpTo told.files calls way
+abbrev pub AreWrites : List WrittenFile → Outcome → List FileCall → Way → Type 0
+AreWrites files ran calls way = ((calls ≡ map write_call files) × (way ≡ finished ran)) ⊎ AreWritesUpTo files calls way
 
 -- The calls are the script's, in its order, up to the first that is refused or for which memory lacks; those refused for want of
 -- memory aren't noted.
@@ -58,7 +60,7 @@ AreCalls (opens name bytes next) calls way =
     ⊎ (((fault : PcapFault) × HasFault bytes fault × (calls ≡ []) × IsOrStarved way (refused (no_capture name fault)))
     ⊎ ((calls ≡ []) × (way ≡ starved)))
 AreCalls (runs form captures) calls way =
-    ((told : RunReport) × IsRun form captures told × AreWrites told calls way)
+    ((ran : Outcome) × (told : RunReport) × IsRun form captures ran told × AreWrites (written_files form told) ran calls way)
     ⊎ ((calls ≡ []) × (way ≡ starved))
 
 -- the calls are those that the words ask for: none, where they are no command

@@ -7,12 +7,14 @@ use Rattle.sn_pcap.specs.declared.fault.PcapFault.{PcapFault}
 use Rattle.sn_pcap.specs.Faults.{HasFault}
 use Rattle.sn_run.specs.Captures.{IsCapture}
 use Rattle.sn_run.specs.Commands.{IsCommand, IsCommandOf}
-use Rattle.sn_run.specs.Reported.{RunReport, WrittenFile, IsRun, outcome}
+use Rattle.sn_run.specs.Reported.{RunReport, WrittenFile, IsRun}
 use Rattle.sn_run.specs.Scripts.{Script, prints, refuses, reads, opens, runs, command_script}
 use Rattle.sn_run.specs.Seen.{Seen, ReadGave, ReadRefused, Written, WrittenUpTo}
 use Rattle.sn_run.specs.Texts.{Said, SaysOrStarves, said_of, starving, unread_said}
 use Rattle.sn_run.specs.Ways.{no_words, refused, finished, done, unwritten, no_capture}
+use Rattle.sn_run.specs.Written.{written_files}
 use Rattle.sn_run.specs.declared.command.Command.{Command}
+use Rattle.sn_run.specs.declared.outcome.Outcome.{Outcome}
 
 -- nothing more is called, there is no report, and this is said or that memory lacked
 pub record Stops (old new : FilesView) (report : Option RunReport) (said wanted : Said) : Type 0 where
@@ -27,11 +29,12 @@ pub record Unread (tells : Bool) (old new : FilesView) (name : List ℕ) (limit 
   pub none : report ≡ None
   pub says : SaysOrStarves said (unread_said name fault)
 
--- all files of a report were written
-pub record Finished (tells : Bool) (old new : FilesView) (told : RunReport) (report : Option RunReport) (said : Said) : Type 0 where
-  pub written : Written tells old new told.files
+-- all files of a run were written, and it ended so
+pub record Finished (tells : Bool) (old new : FilesView) (files : List WrittenFile) (ran : Outcome) (told : RunReport)
+    (report : Option RunReport) (said : Said) : Type 0 where
+  pub written : Written tells old new files
   pub is : report ≡ Some told
-  pub says : said ≡ said_of (finished (outcome told.left))
+  pub says : said ≡ said_of (finished ran)
 
 -- what is said where the write of a file was refused
 abbrev pub SaysUnwritten : FileFault → List ℕ → RunReport → Option RunReport → Said → Type 0
@@ -39,12 +42,18 @@ SaysUnwritten Failed name told report said = (report ≡ Some told) × (said ≡
 SaysUnwritten TooLong name told report said = ⊥
 SaysUnwritten OutOfMemory name told report said = (report ≡ None) × (said ≡ starving)
 
--- a file of a report was not written, and no later one was tried
-pub record Unwritten (tells : Bool) (old new : FilesView) (told : RunReport) (report : Option RunReport) (said : Said) : Type 0 where
+-- a file of a run was not written, and no later one was tried
+pub record Unwritten (tells : Bool) (old new : FilesView) (files : List WrittenFile) (told : RunReport) (report : Option RunReport)
+    (said : Said) : Type 0 where
   pub file : WrittenFile
   pub fault : FileFault
-  pub up_to : WrittenUpTo tells old new told.files file fault
+  pub up_to : WrittenUpTo tells old new files file fault
   pub says : SaysUnwritten fault file.name told report said
+
+-- the files of a run were written, all or up to the first that was refused
+abbrev pub EndsWritten : Bool → FilesView → FilesView → List WrittenFile → Outcome → RunReport → Option RunReport → Said → Type 0
+EndsWritten tells old new files ran told report said =
+    Finished tells old new files ran told report said ⊎ Unwritten tells old new files told report said
 
 -- The steps of the script are made, in its order, up to the first that is refused or for which memory lacks.
 unfoldable pub Follows : Bool → Script → FilesView → FilesView → Option RunReport → Said → Type 0
@@ -58,7 +67,10 @@ Follows tells (opens name bytes next) old new report said =
     ⊎ (((fault : PcapFault) × HasFault bytes fault × Stops old new report said (said_of (refused (no_capture name fault))))
     ⊎ Stops old new report said starving)
 Follows tells (runs form captures) old new report said =
-    ((told : RunReport) × IsRun form captures told × (Finished tells old new told report said ⊎ Unwritten tells old new told report said))
+    ((ran : Outcome)
+    × (told : RunReport)
+    × IsRun form captures ran told
+    × EndsWritten tells old new (written_files form told) ran told report said)
     ⊎ Stops old new report said starving
 
 -- the words are no command, and nothing was called

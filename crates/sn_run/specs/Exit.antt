@@ -5,11 +5,14 @@ use Rattle.sn_run.specs.Printed.{Sunk}
 use Rattle.sn_run.specs.Seen.{Seen}
 use Rattle.sn_run.specs.declared.status.Ended.{Ended}
 use Rattle.sn_run.specs.declared.status.Status.{Status}
-use Rattle.sn_run.specs.declared.status.Status.TheVariants.{Drained, RoundsUsed, Done, BadWords, NoWorker, BadScenario, NotYet, BadPcap, ReadFault, TooLong, WriteFault, PrintFault, OutOfMemory}
+use Rattle.sn_run.specs.declared.status.Status.TheVariants.{Drained, RoundsUsed, JournalLimit, Done, BadWords, NoWorker}
+use Rattle.sn_run.specs.declared.status.Status.TheVariants.{BadScenario, NotYet, BadPcap, ReadFault, TooLong, WriteFault}
+use Rattle.sn_run.specs.declared.status.Status.TheVariants.{PrintFault, OutOfMemory}
 
 abbrev pub exit_number : Status → ℕ
 exit_number Drained = 0
 exit_number (RoundsUsed left) = 4
+exit_number (JournalLimit worker) = 4
 exit_number BadWords = 1
 exit_number Done = 0
 exit_number (NoWorker worker) = 3

@@ -7,12 +7,13 @@ use Rattle.sn_pcap.specs.declared.fault.PcapFault.{PcapFault}
 use Rattle.sn_pcap.specs.Faults.{HasFault}
 use Rattle.sn_run.specs.Captures.{IsCapture}
 use Rattle.sn_run.specs.Commands.{IsCommand, IsCommandOf}
-use Rattle.sn_run.specs.Reported.{RunReport, IsRun, outcome}
+use Rattle.sn_run.specs.Reported.{RunReport, IsRun}
 use Rattle.sn_run.specs.Scripts.{Script, prints, refuses, reads, opens, runs, command_script}
 use Rattle.sn_run.specs.Seen.{Holds, IsOver}
 use Rattle.sn_run.specs.Texts.{Said, said_of}
 use Rattle.sn_run.specs.Ways.{Way, no_words, unread, refused, finished, done, unwritten, starved, unprinted, no_capture}
 use Rattle.sn_run.specs.declared.command.Command.{Command}
+use Rattle.sn_run.specs.declared.outcome.Outcome.{Outcome}
 
 -- the contents lead the script to this
 unfoldable pub Leads : Script → Contents → Said → Type 0
@@ -24,7 +25,8 @@ Leads (reads name limit next) m said =
 Leads (opens name bytes next) m said =
     (IsCapture bytes × Leads next m said)
     ⊎ ((fault : PcapFault) × HasFault bytes fault × (said ≡ said_of (refused (no_capture name fault))))
-Leads (runs form captures) m said = (told : RunReport) × IsRun form captures told × (said ≡ said_of (finished (outcome told.left)))
+Leads (runs form captures) m said =
+    (ran : Outcome) × (told : RunReport) × IsRun form captures ran told × (said ≡ said_of (finished ran))
 
 -- the words are a command, whose script the contents lead to this
 pub record CommandLeads (m : Contents) (words : List (List ℕ)) (said : Said) : Type 0 where

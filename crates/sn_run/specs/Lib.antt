@@ -14,3 +14,4 @@ pub mod Seen
 pub mod Steps
 pub mod Texts
 pub mod Ways
+pub mod Written

@@ -1,6 +1,8 @@
--- What a run leaves: the files that it writes, and how much was left undone.
+-- What a run reports, and how it ends.
 use Rattle.std.specs.Prelude.{ℕ, ◌==◌, ◌-◌, ◌*◌, ◌≡◌, if◌then◌else◌, List, [], ◌∷◌, length, take, filter, nat_le, Bool}
 use Rattle.std.specs.FinMap.{insert}
+use Rattle.sn_app.specs.Counts.{CounterRows}
+use Rattle.sn_journal.specs.declared.entry.Entry.{Entry}
 use Rattle.sn_outside.specs.Contents.{Contents}
 use Rattle.sn_pcap.specs.Places.{payloads_of}
 use Rattle.sn_pcap.specs.Written.{written}
@@ -14,8 +16,11 @@ pub record WrittenFile : Type 0 where
   pub name : List ℕ
   pub bytes : List ℕ
 
--- what a report tells
+-- What a report tells: the entries of each worker's journal, what the apps and links of each have counted, the files of the run,
+-- and how much was left.
 pub record RunReport : Type 0 where
+  pub journals : List (List Entry)
+  pub counters : List CounterRows
   pub files : List WrittenFile
   pub left : ℕ
 
@@ -44,15 +49,18 @@ copied most records = filter fits (take most records)
 abbrev pub report_of : Settings → List ℕ → List (List ℕ) → RunReport
 report_of settings output records =
     record {
+      journals = [];
+      counters = [];
       files = record { name = output; bytes = written (copied (most_read settings) records) } ∷ [];
       left = length records - most_read settings;
     }
 
--- The report is that of a run of this scenario over captures of these bytes: so far, one that copies its one capture into its one
--- output.
-pub record IsRun (form : ScenarioForm) (captures : List (List ℕ)) (report : RunReport) : Type 0 where
+-- The outcome and the report are those of a run of this scenario over captures of these bytes: so far, one that copies its one
+-- capture into its one output.
+pub record IsRun (form : ScenarioForm) (captures : List (List ℕ)) (ran : Outcome) (report : RunReport) : Type 0 where
   pub bytes : List ℕ
   pub output : List ℕ
   pub from : captures ≡ bytes ∷ []
   pub to : form.outputs ≡ output ∷ []
   pub told : report ≡ report_of form.settings output (payloads_of bytes)
+  pub ended : ran ≡ outcome report.left

@@ -13,7 +13,7 @@ use Rattle.sn_run.specs.declared.command.Command.TheVariants.{Run, Check, Action
 
 -- It ends with this text, or with this refusal; or a file is read, at most so many bytes of it, and they decide how it goes on;
 -- or the bytes of a file are opened as a capture, and then it goes on; or a scenario is run over captures of these bytes, its
--- report's files are written in their order, and it ends with the outcome.
+-- files are written in their order, and it ends with the outcome.
 pub data Script : Type 0 where
   prints : List ℕ → Script
   refuses : Why → Script

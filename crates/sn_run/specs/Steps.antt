@@ -7,7 +7,7 @@ use Rattle.sn_scenario.specs.ScenarioText.{scenario_of}
 use Rattle.sn_scenario.specs.Scenarios.{ScenarioForm}
 use Rattle.sn_scenario.specs.declared.fault.ScenarioFault.{ScenarioFault}
 use Rattle.sn_run.specs.Captures.{IsCapture}
-use Rattle.sn_run.specs.Courses.{Follows, Stops, Finished, Unwritten}
+use Rattle.sn_run.specs.Courses.{EndsWritten, Follows, Stops}
 use Rattle.sn_run.specs.Reported.{RunReport, WrittenFile}
 use Rattle.sn_run.specs.Scripts.{Script, reads, opens, runs, captures_script, command_script, most_captures, most_scenario}
 use Rattle.sn_run.specs.Seen.{ReadGave, Written, WriteRefused}
@@ -15,6 +15,7 @@ use Rattle.sn_run.specs.Texts.{Said, SaysOrStarves, said_of, saying, starving}
 use Rattle.sn_run.specs.Ways.{refused, no_scenario, unwritten}
 use Rattle.sn_run.specs.declared.answer.Refusal.{Refusal}
 use Rattle.sn_run.specs.declared.command.Command.{Command}
+use Rattle.sn_run.specs.declared.outcome.Outcome.{Outcome}
 
 -- a text spells no scenario, and this is said, or memory lacked
 abbrev pub RefusesText : List ℕ → Said → Type 0
@@ -51,10 +52,10 @@ LeadOn tells old new names captures =
 abbrev pub CapturesEnd : Bool → FilesView → FilesView → List (List ℕ) → Said → Type 0
 CapturesEnd tells old new names said = (form : ScenarioForm) → Follows tells (captures_script form names most_captures []) old new None said
 
--- the files of this report were written, all or up to the first that was refused, or memory lacked before
-abbrev pub EndsRun : Bool → FilesView → FilesView → RunReport → Option RunReport → Said → Type 0
-EndsRun tells old new told report said =
-    (Finished tells old new told report said ⊎ Unwritten tells old new told report said) ⊎ Stops old new report said starving
+-- the files of a run were written, all or up to the first that was refused, or memory lacked before
+abbrev pub EndsRun : Bool → FilesView → FilesView → List WrittenFile → Outcome → RunReport → Option RunReport → Said → Type 0
+EndsRun tells old new files ran told report said =
+    EndsWritten tells old new files ran told report said ⊎ Stops old new report said starving
 
 -- the write of the file at this place was refused with this fault
 pub record WriteStops (tells : Bool) (old new : FilesView) (files : List WrittenFile) (at : ℕ) (fault : FileFault) : Type 0 where
@@ -66,6 +67,13 @@ pub record WriteStops (tells : Bool) (old new : FilesView) (files : List Written
   pub refused : WriteRefused tells between new file.name fault
   pub never_long : fault ≡ TooLong → ⊥
 
+-- what answers say, and what is to be said where each of these files was not written
+abbrev pub prepared : List Refusal → List Said
+prepared answers = map (λ r. saying r.status r.text.items) answers
+
+abbrev pub unwritten_all : List WrittenFile → List Said
+unwritten_all files = map (λ file. said_of (unwritten file.name)) files
+
 -- the answers are those that these files were not written, in their order
 abbrev pub PreparedFor : List Refusal → List WrittenFile → Type 0
-PreparedFor answers files = map (λ r. saying r.status r.text.items) answers ≡ map (λ file. said_of (unwritten file.name)) files
+PreparedFor answers files = prepared answers ≡ unwritten_all files

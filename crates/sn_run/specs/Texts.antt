@@ -6,9 +6,10 @@ use Rattle.sn_outside.specs.declared.fault.FileFault.TheVariants.{Failed, TooLon
 use Rattle.sn_pcap.specs.declared.fault.PcapFault.{PcapFault}
 use Rattle.sn_pcap.specs.declared.fault.PcapFault.TheVariants.{ShortHeader, BadMagic, BadVersion, CutRecord}
 use Rattle.sn_scenario.specs.WhyWords.{why_word}
-use Rattle.sn_run.specs.Ways.{Way, Why, way_of, no_words, unread, refused, finished, done, unwritten, starved, unprinted, no_scenario, no_worker, not_yet, no_capture}
+use Rattle.sn_run.specs.Ways.{Way, Why, way_of, no_words, unread, refused, finished, done, unwritten, starved, unprinted}
+use Rattle.sn_run.specs.Ways.{no_scenario, no_worker, not_yet, no_capture}
 use Rattle.sn_run.specs.declared.outcome.Outcome.{Outcome}
-use Rattle.sn_run.specs.declared.outcome.Outcome.TheVariants.{Drained, RoundsUsed}
+use Rattle.sn_run.specs.declared.outcome.Outcome.TheVariants.{Drained, RoundsUsed, JournalLimit}
 use Rattle.sn_run.specs.declared.status.Status.{Status}
 
 -- the word for a capture's fault, with the number of a cut record
@@ -39,6 +40,7 @@ why_text (no_capture name fault) = text_line (codes "capture ") (name ++ (32 ∷
 abbrev pub outcome_text : Outcome → List ℕ
 outcome_text Drained = text_line (codes "status drained") []
 outcome_text (RoundsUsed left) = text_line (codes "status rounds-used ") (decimal left)
+outcome_text (JournalLimit worker) = text_line (codes "status journal-limit ") (decimal worker)
 
 -- want of memory prints nothing, and a refused print has no text of its own
 abbrev pub way_text : Way → List ℕ

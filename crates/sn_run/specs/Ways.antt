@@ -5,9 +5,11 @@ use Rattle.sn_outside.specs.declared.fault.FileFault.TheVariants.{Failed, TooLon
 use Rattle.sn_pcap.specs.declared.fault.PcapFault.{PcapFault}
 use Rattle.sn_scenario.specs.declared.fault.ScenarioFault.{ScenarioFault}
 use Rattle.sn_run.specs.declared.outcome.Outcome.{Outcome}
-use Rattle.sn_run.specs.declared.outcome.Outcome.TheVariants.{Drained as Emptied, RoundsUsed as Used}
+use Rattle.sn_run.specs.declared.outcome.Outcome.TheVariants.{Drained as Emptied, RoundsUsed as Used, JournalLimit as Limited}
 use Rattle.sn_run.specs.declared.status.Status.{Status}
-use Rattle.sn_run.specs.declared.status.Status.TheVariants.{Drained, RoundsUsed, Done, BadWords, NoWorker, BadScenario, NotYet, BadPcap, ReadFault, TooLong, WriteFault, PrintFault, OutOfMemory}
+use Rattle.sn_run.specs.declared.status.Status.TheVariants.{Drained, RoundsUsed, JournalLimit, Done, BadWords, NoWorker}
+use Rattle.sn_run.specs.declared.status.Status.TheVariants.{BadScenario, NotYet, BadPcap, ReadFault, TooLong, WriteFault}
+use Rattle.sn_run.specs.declared.status.Status.TheVariants.{PrintFault, OutOfMemory}
 
 -- why a file that was read is refused: it spells no scenario, or one without this worker, or one that doesn't run yet, or it
 -- is no capture
@@ -33,6 +35,7 @@ pub data Way : Type 0 where
 abbrev pub way_of : Status → Way
 way_of Drained = finished Emptied
 way_of (RoundsUsed left) = finished (Used left)
+way_of (JournalLimit worker) = finished (Limited worker)
 way_of Done = done
 way_of BadWords = no_words
 way_of (NoWorker worker) = refused (no_worker worker)

@@ -12,6 +12,7 @@ use crate::Status;
 use crate::action_text::push_actions;
 use crate::answer::{Answer, refusal_of, refused, starved};
 use crate::copying::runs_now;
+use crate::journal_text::journal_files;
 use crate::reading::{read_captures, read_text};
 use crate::texts::status_text;
 use crate::values::run_scenario;
@@ -33,7 +34,7 @@ fn done(text: Vec<u8>) -> Answer
     }
 }
 
-/// Reads the captures of a scenario, runs it, and writes what the run leaves.
+/// Reads the captures of a scenario, runs it, and writes the files that the run leaves and the journal's.
 fn run_read<F: Files>(alloc: Global, scenario: &Scenario, files: &mut F) -> Answer
     requires { RunsSoFar scenario.now }
     ensures { Follows
@@ -51,7 +52,10 @@ fn run_read<F: Files>(alloc: Global, scenario: &Scenario, files: &mut F) -> Answ
     let Ok((outcome, report)) = run_scenario(alloc, scenario, captures) else {
         return starved(alloc);
     };
-    write_report(alloc, outcome, report, files)
+    let Ok(journal) = journal_files(alloc, scenario.journal(), &report) else {
+        return starved(alloc);
+    };
+    write_report(alloc, outcome, report, &journal, files)
 }
 
 /// Runs the scenario that a file holds.

@@ -4,7 +4,7 @@
 //! * `reading`: the files that a command reads
 //! * `commands`: what each command does with its file
 //! * `copying`, `copy`, `values`: which scenarios run so far, and the run of one over captures
-//! * `writing`: the files that a run writes
+//! * `writing`, `journal_text`: the files that a run writes, and the journal's text
 //! * `status`, `outcome`, `report`: how a command and a run end, and what a run leaves
 //! * `answer`, `texts`, `action_text`, `printing`: answers, their texts, and the sink that takes them
 //! * `top`: the top call
@@ -16,6 +16,7 @@ mod command;
 mod commands;
 mod copy;
 mod copying;
+mod journal_text;
 mod outcome;
 mod printing;
 mod reading;

@@ -12,6 +12,8 @@ pub enum Outcome {
     Drained,
     /// The rounds were used up, and so much was left: records that were not read.
     RoundsUsed(u64),
+    /// The journal of this worker is full, and no worker before it has a full one.
+    JournalLimit(u32),
 }
 
 /// How a run ends of which so much is left.
@@ -32,5 +34,6 @@ pub(crate) fn status_of(outcome: Outcome) -> Status
     match outcome {
         Outcome::Drained => Status::Drained,
         Outcome::RoundsUsed(left) => Status::RoundsUsed(left),
+        Outcome::JournalLimit(worker) => Status::JournalLimit(worker),
     }
 }

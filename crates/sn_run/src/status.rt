@@ -14,6 +14,8 @@ pub enum Status {
     Drained,
     /// The rounds were used up, and so much was left.
     RoundsUsed(u64),
+    /// The journal of this worker is full, and no worker before it has a full one.
+    JournalLimit(u32),
     /// The scenario was read, and what was asked of it is printed.
     Done,
     /// The words are no command.
@@ -53,7 +55,7 @@ impl Status {
             Status::BadScenario(_) => 3,
             Status::NotYet(_) => 3,
             Status::BadPcap(_, _) => 3,
-            Status::RoundsUsed(_) => 4,
+            Status::RoundsUsed(_) | Status::JournalLimit(_) => 4,
             Status::OutOfMemory => 5,
         }
     }

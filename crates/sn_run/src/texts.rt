@@ -93,6 +93,9 @@ pub(crate) fn status_text(alloc: Global, status: &Status) -> Result<Vec<u8>, All
     match status {
         Status::Drained => line_of(alloc, b"status drained", b""),
         Status::RoundsUsed(left) => number_of(alloc, b"status rounds-used ", *left),
+        Status::JournalLimit(worker) => {
+            number_of(alloc, b"status journal-limit ", u64::from(*worker))
+        }
         Status::BadWords => Vec::from_slice(alloc, USAGE),
         Status::Done => line_of(alloc, b"ok", b""),
         Status::NoWorker(worker) => number_of(alloc, b"no worker ", u64::from(*worker)),

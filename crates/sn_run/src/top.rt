@@ -1,6 +1,7 @@
 //! The top call: from the words of a command to its text.
 ghost use Rattle.sn_outside.specs.Counts.{FaultCounted};
-ghost use Rattle.sn_run.specs.Answers.{answer_of, ended_by, Answered, FaultsCounted, Headline, IsCaused, IsDue, IsTextOf, Leaves, Reports};
+ghost use Rattle.sn_run.specs.Answers.{answer_of, ended_by, has_report, Answered, FaultsCounted, Headline, IsCaused, IsDue};
+ghost use Rattle.sn_run.specs.Answers.{IsTextOf, Leaves};
 ghost use Rattle.sn_run.specs.Calls.{CallsMade, IsOrStarved};
 ghost use Rattle.sn_run.specs.Commands.{IsCommand, texts};
 ghost use Rattle.sn_run.specs.Courses.{Course, Follows};
@@ -10,7 +11,7 @@ ghost use Rattle.sn_run.specs.Scripts.{command_script};
 ghost use Rattle.sn_run.specs.Seen.{seen};
 ghost use Rattle.sn_run.specs.Texts.{Said, saying};
 ghost use Rattle.sn_run.specs.Ways.{way_of};
-ghost use Rattle.std.specs.Prelude.{ℕ, List, true, Some, None, IfOk, IfSome, IsSome, map, string_bytes, length, ◌≡◌, ◌≢◌, ◌⊎◌, ◌↔◌, ◌≤◌};
+ghost use Rattle.std.specs.Prelude.{ℕ, List, true, Some, None, IfOk, IfSome, IsSome, is_some, map, string_bytes, length, ◌≡◌, ◌≢◌, ◌⊎◌, ◌↔◌, ◌≤◌};
 
 use crate::answer::{Answer, starved};
 use crate::command::{Command, command_of};
@@ -142,11 +143,13 @@ pub fn snabb_main<R: Threads + Sync, F: Files, O: Sink, G: Gate>(
         (texts words.now)
         result }
 
-    // A report is that of a run of the scenario and the captures that were read, and comes just with these answers.
-    ensures headline { IfSome result.report (Headline (seen F.tells (F.state files.old) (F.state files.new)) (texts words.now)) }
-    ensures reports { Reports result.report (ended_by result) }
+    // A report is that of a run of the scenario and the captures that were read, and comes just with these answers. The files
+    // hold what the run made.
+    ensures headline { IfSome result.report
+        (Headline (seen F.tells (F.state files.old) (F.state files.new)) (texts words.now) (ended_by result)) }
+    ensures reports { is_some result.report ≡ has_report (ended_by result) }
     ensures leaves { F.tells ≡ true
-        → Leaves (F.state files.old).contents (F.state files.new).contents result.report (ended_by result) }
+        → Leaves (seen F.tells (F.state files.old) (F.state files.new)) (texts words.now) result.report (ended_by result) }
 
     // The calls made are the script's, in their order, up to the first that was refused.
     ensures calls { CallsMade (seen F.tells (F.state files.old) (F.state files.new)) (texts words.now) (ended_by result) }

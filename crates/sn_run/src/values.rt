@@ -38,7 +38,12 @@ fn copy_report(
     let name = output.copy(alloc)?;
     let mut files = Vec::with_capacity(alloc, 1)?;
     files.push(OutFile { name, bytes })?;
-    Ok(Report { files, left })
+    Ok(Report {
+        journals: Vec::new(alloc),
+        counters: Vec::new(alloc),
+        files,
+        left,
+    })
 }
 
 /// Runs a scenario over the captures that it names, in their order, and answers how the run ended
@@ -56,8 +61,7 @@ pub fn run_scenario(
 ) -> Result<(Outcome, Report), AllocError>
     requires now { RunsSoFar scenario.now }
     requires captures { length captures.items ≡ length scenario.now.captures }
-    ensures run { IfOk result (λ made. IsRun scenario.now captures.items made.1) }
-    ensures outcome { IfOk result (λ made. made.0 ≡ outcome made.1.left) }
+    ensures { IfOk result (λ made. IsRun scenario.now captures.items made.0 made.1) }
 {
     let settings = scenario.settings();
     let output = &scenario.outputs()[0];
