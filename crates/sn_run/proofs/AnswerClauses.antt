@@ -50,8 +50,10 @@ module _ (w : Seen) (words : List (List ℕ)) where
     | inr u ↦ untouched_leaves w words report said t u
   ]
 
-  pub counts_of : (report : Option RunReport) (said : Said) → Course w words report said → FaultsCounted w.old.faults w.new.faults said.way
-  counts_of report said (inl n) = subst (λ s. FaultsCounted w.old.faults w.new.faults s.way) (sym n.says) (ap (λ v. v.faults) n.same)
+  pub counts_of : (report : Option RunReport) (said : Said) → Course w words report said
+      → FaultsCounted w.old.faults w.new.faults said.way
+  counts_of report said (inl n) =
+      subst (λ s. FaultsCounted w.old.faults w.new.faults s.way) (sym n.says) (ap (λ v. v.faults) n.same)
   counts_of report said (inr m) = counts w.tells (command_script m.file m.command) w.old w.new report said m.follows
 
   pub calls_of : (report : Option RunReport) (said : Said) → Course w words report said → CallsMade w words said.way
@@ -82,19 +84,23 @@ module _ (w : Seen) (words : List (List ℕ)) where
         | inr u ↦ absurd (let e : Some told ≡ None = sym is ∙ u.none in cc)
       ]
 
-  module _ (one_fault : (bytes : List ℕ) (a b : PcapFault) → HasFault bytes a → HasFault bytes b → a ≡ b) (no_fault : (bytes : List ℕ) (records : List (List ℕ)) (fault : PcapFault) → PcapText bytes records → HasFault bytes fault → ⊥) where
+  module _ (one_fault : (bytes : List ℕ) (a b : PcapFault) → HasFault bytes a → HasFault bytes b → a ≡ b) (no_fault :
+      (bytes : List ℕ) (records : List (List ℕ)) (fault : PcapFault) → PcapText bytes records → HasFault bytes fault → ⊥) where
     -- words and contents lead to one answer
     one_expected : (a b : Said) → Expected w.old.contents words a → Expected w.old.contents words b → a ≡ b
     one_expected a b (inl x) (inl y) = x.1 ∙ sym y.1
     one_expected a b (inl x) (inr y) = absurd (x.0 (y.file, y.command, y.asked))
     one_expected a b (inr x) (inl y) = absurd (y.0 (x.file, x.command, x.asked))
     one_expected a b (inr x) (inr y) =
-        let one : (x.file ≡ y.file) × (x.command ≡ y.command) = one_asked words x.file y.file x.command y.command x.asked y.asked in
+        let one : (x.file ≡ y.file) × (x.command ≡ y.command) =
+        one_asked words x.file y.file x.command y.command x.asked y.asked in
         one_lead one_fault no_fault (command_script y.file y.command) w.old.contents a b
-        (subst (λ f. Leads (command_script f y.command) w.old.contents a) one.0 (subst (λ c. Leads (command_script x.file c) w.old.contents a) one.1 x.leads))
+        (subst (λ f. Leads (command_script f y.command) w.old.contents a) one.0
+        (subst (λ c. Leads (command_script x.file c) w.old.contents a) one.1 x.leads))
         y.leads
 
-    expected_by : (report : Option RunReport) (said : Said) → Course w words report said → w.tells ≡ true → IsOutside said.way ⊎ Expected w.old.contents words said
+    expected_by : (report : Option RunReport) (said : Said) → Course w words report said → w.tells ≡ true
+        → IsOutside said.way ⊎ Expected w.old.contents words said
     expected_by report said (inl n) t = inr (inl (n.none, n.says))
     expected_by report said (inr m) t = elim (led w.tells t (command_script m.file m.command) w.old w.new report said m.follows) [
       | inl o ↦ inl o
@@ -102,7 +108,8 @@ module _ (w : Seen) (words : List (List ℕ)) where
     ]
 
     -- where no fault was counted, an answer of that kind is want of memory
-    lacking : (way : Way) → IsOutside way → FaultsCounted w.old.faults w.new.faults way → (FaultCounted w.old.faults w.new.faults → ⊥) → way ≡ starved
+    lacking : (way : Way) → IsOutside way → FaultsCounted w.old.faults w.new.faults way
+        → (FaultCounted w.old.faults w.new.faults → ⊥) → way ≡ starved
     lacking no_words o f calm = absurd o
     lacking (unread name Failed) o f calm = absurd (calm f)
     lacking (unread name Long) o f calm = absurd o
@@ -114,13 +121,15 @@ module _ (w : Seen) (words : List (List ℕ)) where
     lacking starved o f calm = refl
     lacking unprinted o f calm = absurd o
 
-    pub expected_of : (report : Option RunReport) (said wanted : Said) → Course w words report said → IsDue w words wanted → IsOrStarved said.way wanted.way
+    pub expected_of : (report : Option RunReport) (said wanted : Said) → Course w words report said → IsDue w words wanted
+        → IsOrStarved said.way wanted.way
     expected_of report said wanted course due = elim (expected_by report said course due.told) [
       | inl o ↦ inr (lacking said.way o (counts_of report said course) due.calm)
       | inr e ↦ inl (ap (λ s. s.way) (one_expected said wanted e due.expected))
     ]
 
-    pub shown_of : (report : Option RunReport) (said wanted : Said) → Course w words report said → w.tells ≡ true → Expected w.old.contents words wanted → said.way ≡ done → said.text ≡ wanted.text
+    pub shown_of : (report : Option RunReport) (said wanted : Said) → Course w words report said → w.tells ≡ true
+        → Expected w.old.contents words wanted → said.way ≡ done → said.text ≡ wanted.text
     shown_of report said wanted course t expected is = elim (expected_by report said course t) [
       | inl o ↦ absurd (subst IsOutside is o)
       | inr e ↦ ap (λ s. s.text) (one_expected said wanted e expected)
@@ -145,43 +154,59 @@ module _ (w : Seen) (words : List (List ℕ)) where
 
   no_command : (report : Option RunReport) (said : Said) → Course w words report said → said.way ≡ no_words → IsCommand words → ⊥
   no_command report said (inl n) is command = n.none command
-  no_command report said (inr m) is command = subst Rattle.sn_run.proofs.ScriptEnds.IsOfScript is (of_script w.tells (command_script m.file m.command) w.old w.new report said m.follows)
+  no_command report said (inr m) is command =
+      subst Rattle.sn_run.proofs.ScriptEnds.IsOfScript is
+      (of_script w.tells (command_script m.file m.command) w.old w.new report said m.follows)
 
-  says_no_words : (report : Option RunReport) (said : Said) → Course w words report said → (IsCommand words → ⊥) → said.way ≡ no_words
+  says_no_words : (report : Option RunReport) (said : Said) → Course w words report said → (IsCommand words → ⊥)
+      → said.way ≡ no_words
   says_no_words report said (inl n) none = ap (λ s. s.way) n.says
   says_no_words report said (inr m) none = absurd (none (m.file, m.command, m.asked))
 
-  pub bad_words_of : (report : Option RunReport) (status : Status) (text : List ℕ) → Course w words report (record { way = way_of status; text = text }) → (status ≡ BadWords) ↔ (IsCommand words → ⊥)
+  pub bad_words_of : (report : Option RunReport) (status : Status) (text : List ℕ)
+      → Course w words report (record { way = way_of status; text = text }) → (status ≡ BadWords) ↔ (IsCommand words → ⊥)
   bad_words_of report status text course =
       (λ is. no_command report _ course (ap way_of is), λ none. bad_status status (says_no_words report _ course none))
 
   -- the answer that a print fault replaced is no print fault
-  pub never_unprinted_of : (replaced : Option Status) (status : Status) (report : Option RunReport) (text : List ℕ) → Course w words report (record { way = way_of (unwrap_or replaced status); text = text }) → replaced ≡ Some PrintFault → ⊥
+  pub never_unprinted_of : (replaced : Option Status) (status : Status) (report : Option RunReport) (text : List ℕ)
+      → Course w words report (record { way = way_of (unwrap_or replaced status); text = text }) → replaced ≡ Some PrintFault → ⊥
   never_unprinted_of replaced status report text (inl n) is =
       let e : unprinted ≡ no_words = sym (ap (λ r. way_of (unwrap_or r status)) is) ∙ ap (λ s. s.way) n.says in cc
   never_unprinted_of replaced status report text (inr m) is =
-      subst Rattle.sn_run.proofs.ScriptEnds.IsOfScript (ap (λ r. way_of (unwrap_or r status)) is) (of_script w.tells (command_script m.file m.command) w.old w.new report _ m.follows)
+      subst Rattle.sn_run.proofs.ScriptEnds.IsOfScript (ap (λ r. way_of (unwrap_or r status)) is)
+      (of_script w.tells (command_script m.file m.command) w.old w.new report _ m.follows)
 
-  answer_done : (replaced : Option Status) (status : Status) → IsSome replaced ↔ (status ≡ PrintFault) → status ≡ Done → unwrap_or replaced status ≡ Done
+  answer_done : (replaced : Option Status) (status : Status) → IsSome replaced ↔ (status ≡ PrintFault) → status ≡ Done
+      → unwrap_or replaced status ≡ Done
   answer_done None status faults is = is
   answer_done (Some answer) status faults is = absurd (let e : PrintFault ≡ Done = sym (faults.0 refl) ∙ is in cc)
 
   -- what is printed is what words and contents say
-  pub shown_taken : (one_fault : (bytes : List ℕ) (a b : PcapFault) → HasFault bytes a → HasFault bytes b → a ≡ b) (no_fault : (bytes : List ℕ) (records : List (List ℕ)) (fault : PcapFault) → PcapText bytes records → HasFault bytes fault → ⊥) (s : Sunk) (ended : Ended) (wanted : Said) → Answered w s words ended → IsSome ended.replaced ↔ (ended.status ≡ PrintFault) → w.tells ≡ true → Expected w.old.contents words wanted → ended.status ≡ Done → TookAll s wanted.text
+  pub shown_taken : (one_fault : (bytes : List ℕ) (a b : PcapFault) → HasFault bytes a → HasFault bytes b → a ≡ b) (no_fault :
+      (bytes : List ℕ) (records : List (List ℕ)) (fault : PcapFault) → PcapText bytes records → HasFault bytes fault → ⊥) (s :
+      Sunk) (ended : Ended) (wanted : Said) → Answered w s words ended → IsSome ended.replaced ↔ (ended.status ≡ PrintFault) →
+      w.tells ≡ true → Expected w.old.contents words wanted → ended.status ≡ Done → TookAll s wanted.text
   shown_taken one_fault no_fault s ended wanted answered faults t expected is =
-      subst (TookAll s) (shown_of one_fault no_fault ended.report _ wanted answered.course t expected (ap way_of (answer_done ended.replaced ended.status faults is)))
+      subst (TookAll s) (shown_of one_fault no_fault ended.report _ wanted answered.course t expected
+      (ap way_of (answer_done ended.replaced ended.status faults is)))
       (answered.all (λ p. let e : Done ≡ PrintFault = sym is ∙ p in cc))
 
   own_of : (report : Option RunReport) (said : Said) → Course w words report said → HasOwnText said
   own_of report said (inl n) = subst HasOwnText (sym n.says) (λ other. refl)
   own_of report said (inr m) = own_text w.tells (command_script m.file m.command) w.old w.new report said m.follows
 
-  text_is : (ended : Ended) (text : List ℕ) → Course w words ended.report (record { way = ended_by ended; text = text }) → IsTextOf w words (ended_by ended) text
+  text_is : (ended : Ended) (text : List ℕ) → Course w words ended.report (record { way = ended_by ended; text = text })
+      → IsTextOf w words (ended_by ended) text
   text_is ended text course = record { report = ended.report; course = course; own = own_of ended.report _ course }
 
   -- the sink took the text of the answer, or its front
-  pub text_of_answer : (s : Sunk) (ended : Ended) → Answered w s words ended → ended.status ≢ PrintFault → TookAllOf s (IsTextOf w words (ended_by ended))
-  text_of_answer s ended answered printed = record { text = answered.text; is = text_is ended answered.text answered.course; took = answered.all printed }
+  pub text_of_answer : (s : Sunk) (ended : Ended) → Answered w s words ended → ended.status ≢ PrintFault
+      → TookAllOf s (IsTextOf w words (ended_by ended))
+  text_of_answer s ended answered printed =
+      record { text = answered.text; is = text_is ended answered.text answered.course; took = answered.all printed }
 
-  pub front_of_answer : (s : Sunk) (ended : Ended) → Answered w s words ended → ended.status ≡ PrintFault → TookFrontOf s (IsTextOf w words (ended_by ended))
-  front_of_answer s ended answered failed = record { text = answered.text; is = text_is ended answered.text answered.course; took = answered.front failed }
+  pub front_of_answer : (s : Sunk) (ended : Ended) → Answered w s words ended → ended.status ≡ PrintFault
+      → TookFrontOf s (IsTextOf w words (ended_by ended))
+  front_of_answer s ended answered failed =
+      record { text = answered.text; is = text_is ended answered.text answered.course; took = answered.front failed }

@@ -1,5 +1,6 @@
 -- The list of calls that a script makes.
-use Rattle.std.proofs.Common.{◌≡◌, ℕ, Bool, true, inl, inr, List, [], ◌∷◌, ◌++◌, Option, Ok, Err, map, refl, sym, ap, ◌∙◌, subst, append_assoc}
+use Rattle.std.proofs.Common.{◌≡◌, ℕ, Bool, true, inl, inr, List, [], ◌∷◌, ◌++◌, Option, Ok, Err, map, refl, sym, ap, ◌∙◌, subst}
+use Rattle.std.proofs.Common.{append_assoc}
 use Rattle.std.proofs.lemmas.List.{append-nil}
 use Rattle.sn_outside.specs.Told.{with_call}
 use Rattle.sn_outside.specs.Views.{FilesView}
@@ -37,12 +38,14 @@ unread_is name TooLong = refl
 unread_is name OutOfMemory = refl
 
 -- a refused call behind others
-call_on : (old more : List FileCall) (kind : CallKind) (name : List ℕ) (fault : FileFault) → with_call (old ++ more) kind name (Err fault) ≡ old ++ with_call more kind name (Err fault)
+call_on : (old more : List FileCall) (kind : CallKind) (name : List ℕ) (fault : FileFault)
+    → with_call (old ++ more) kind name (Err fault) ≡ old ++ with_call more kind name (Err fault)
 call_on old more kind name Failed = append_assoc old more (record { kind = kind; name = name; answer = Err Failed } ∷ [])
 call_on old more kind name TooLong = append_assoc old more (record { kind = kind; name = name; answer = Err TooLong } ∷ [])
 call_on old more kind name OutOfMemory = refl
 
-ends_unwritten : (fault : FileFault) (name : List ℕ) (told : RunReport) (report : Option RunReport) (said : Said) → SaysUnwritten fault name told report said → EndsUnwritten fault name said.way
+ends_unwritten : (fault : FileFault) (name : List ℕ) (told : RunReport) (report : Option RunReport) (said : Said)
+    → SaysUnwritten fault name told report said → EndsUnwritten fault name said.way
 ends_unwritten Failed name told report said s = ap (λ s. s.way) s.1
 ends_unwritten TooLong name told report said s = absurd s
 ends_unwritten OutOfMemory name told report said s = ap (λ s. s.way) s.1
@@ -78,28 +81,38 @@ module _ (tells : Bool) where
     );
   }
 
-  pub makes_calls : (s : Script) (old new : FilesView) (report : Option RunReport) (said : Said) → Follows tells s old new report said → MakesCalls tells s old new said
+  pub makes_calls : (s : Script) (old new : FilesView) (report : Option RunReport) (said : Said)
+      → Follows tells s old new report said → MakesCalls tells s old new said
   unfolding Follows AreCalls
-  makes_calls (prints text) old new report said f = record { calls = []; told = λ t. none_called old new f.same; are = (refl, way_says said _ f.says) }
-  makes_calls (refuses why) old new report said f = record { calls = []; told = λ t. none_called old new f.same; are = (refl, way_says said _ f.says) }
+  makes_calls (prints text) old new report said f =
+      record { calls = []; told = λ t. none_called old new f.same; are = (refl, way_says said _ f.says) }
+  makes_calls (refuses why) old new report said f =
+      record { calls = []; told = λ t. none_called old new f.same; are = (refl, way_says said _ f.says) }
   makes_calls (reads name limit next) old new report said (inl g) =
       let rest : MakesCalls tells (next g.0) g.1 new said = makes_calls (next g.0) g.1 new report said g.3 in
       record {
         calls = a_read name (Ok tt) ∷ rest.calls;
-        told = λ t. rest.told t ∙ ap (λ cs. cs ++ rest.calls) (g.2.called t) ∙ append_assoc old.calls (a_read name (Ok tt) ∷ []) rest.calls;
+        told =
+            λ t. rest.told t ∙ ap (λ cs. cs ++ rest.calls) (g.2.called t) ∙ append_assoc old.calls
+            (a_read name (Ok tt) ∷ []) rest.calls;
         are = inl (g.0, rest.calls, refl, rest.are);
       }
   makes_calls (reads name limit next) old new report said (inr (inl u)) = record {
     calls = with_call [] Read name (Err u.fault);
-    told = λ t. u.refused.called t ∙ ap (λ cs. with_call cs Read name (Err u.fault)) (sym (append-nil old.calls)) ∙ call_on old.calls [] Read name u.fault;
+    told =
+        λ t. u.refused.called t ∙ ap (λ cs. with_call cs Read name (Err u.fault)) (sym (append-nil old.calls))
+        ∙ call_on old.calls [] Read name u.fault;
     are = inr (inl (u.fault, refl, subst (IsOrStarved said.way) (unread_is name u.fault) (way_says said _ u.says)));
   }
-  makes_calls (reads name limit next) old new report said (inr (inr st)) = record { calls = []; told = λ t. none_called old new st.same; are = inr (inr (refl, only_starved said st.says)) }
+  makes_calls (reads name limit next) old new report said (inr (inr st)) =
+      record { calls = []; told = λ t. none_called old new st.same; are = inr (inr (refl, only_starved said st.says)) }
   makes_calls (opens name bytes next) old new report said (inl g) =
       let rest : MakesCalls tells next old new said = makes_calls next old new report said g.1 in
       record { calls = rest.calls; told = rest.told; are = inl (g.0, rest.are) }
-  makes_calls (opens name bytes next) old new report said (inr (inl h)) = record { calls = []; told = λ t. none_called old new h.2.same; are = inr (inl (h.0, h.1, refl, way_says said _ h.2.says)) }
-  makes_calls (opens name bytes next) old new report said (inr (inr st)) = record { calls = []; told = λ t. none_called old new st.same; are = inr (inr (refl, only_starved said st.says)) }
+  makes_calls (opens name bytes next) old new report said (inr (inl h)) =
+      record { calls = []; told = λ t. none_called old new h.2.same; are = inr (inl (h.0, h.1, refl, way_says said _ h.2.says)) }
+  makes_calls (opens name bytes next) old new report said (inr (inr st)) =
+      record { calls = []; told = λ t. none_called old new st.same; are = inr (inr (refl, only_starved said st.says)) }
   makes_calls (runs form captures) old new report said (inl (ran, told, run, inl f)) = record {
     calls = map write_call (written_files form told);
     told = f.written.called;

@@ -20,5 +20,6 @@ one_words f g (Actions m) (Actions n) b e same =
     let digits : decimal m ≡ decimal n = cc in
     (cc, ap Actions (same_number m n (omega (arith, b)) (omega (arith, e)) digits))
 
-pub one_asked : (words : List (List ℕ)) (f g : List ℕ) (c d : Command) → IsCommandOf words f c → IsCommandOf words g d → (f ≡ g) × (c ≡ d)
+pub one_asked : (words : List (List ℕ)) (f g : List ℕ) (c d : Command) → IsCommandOf words f c → IsCommandOf words g d
+    → (f ≡ g) × (c ≡ d)
 one_asked words f g c d a b = one_words f g c d a.bounds b.bounds (sym a.words_are ∙ b.words_are)

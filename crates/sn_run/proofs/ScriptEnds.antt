@@ -38,34 +38,40 @@ unread_of_script name Long = tt
 unread_of_script name NoMemory = tt
 
 module _ (tells : Bool) where
-  stops_of_script : (old new : FilesView) (report : Option RunReport) (said wanted : Said) → Stops old new report said wanted → OfScript wanted → OfScript said
+  stops_of_script : (old new : FilesView) (report : Option RunReport) (said wanted : Said) → Stops old new report said wanted
+      → OfScript wanted → OfScript said
   stops_of_script old new report said wanted stops well = says OfScript said wanted stops.says well tt
 
   unwritten_of_script : (old new : FilesView) (files : List WrittenFile) (told : RunReport) (report : Option RunReport)
       (said : Said) (u : Unwritten tells old new files told report said) → OfScript said
   unwritten_of_script old new files told report said u = by_fault u.fault u.says
     where
-      by_fault : (fault : FileFault) → Rattle.sn_run.specs.Courses.SaysUnwritten fault u.file.name told report said → OfScript said
+      by_fault : (fault : FileFault) → Rattle.sn_run.specs.Courses.SaysUnwritten fault u.file.name told report said
+          → OfScript said
       by_fault Failed s = subst OfScript (sym s.1) tt
       by_fault Long s = absurd s
       by_fault NoMemory s = subst OfScript (sym s.1) tt
 
-  pub of_script : (s : Script) (old new : FilesView) (report : Option RunReport) (said : Said) → Follows tells s old new report said → OfScript said
+  pub of_script : (s : Script) (old new : FilesView) (report : Option RunReport) (said : Said)
+      → Follows tells s old new report said → OfScript said
   unfolding Follows
   of_script (prints text) old new report said f = stops_of_script old new report said _ f tt
   of_script (refuses why) old new report said f = stops_of_script old new report said _ f tt
   of_script (reads name limit next) old new report said (inl g) = of_script (next g.0) g.1 new report said g.3
-  of_script (reads name limit next) old new report said (inr (inl u)) = says OfScript said (unread_said name u.fault) u.says (unread_of_script name u.fault) tt
+  of_script (reads name limit next) old new report said (inr (inl u)) =
+      says OfScript said (unread_said name u.fault) u.says (unread_of_script name u.fault) tt
   of_script (reads name limit next) old new report said (inr (inr st)) = stops_of_script old new report said starving st tt
   of_script (opens name bytes next) old new report said (inl g) = of_script next old new report said g.1
   of_script (opens name bytes next) old new report said (inr (inl h)) = stops_of_script old new report said _ h.2 tt
   of_script (opens name bytes next) old new report said (inr (inr st)) = stops_of_script old new report said starving st tt
   of_script (runs form captures) old new report said (inl (ran, told, run, inl f)) = subst OfScript (sym f.says) tt
-  of_script (runs form captures) old new report said (inl (ran, told, run, inr u)) = unwritten_of_script old new _ told report said u
+  of_script (runs form captures) old new report said (inl (ran, told, run, inr u)) =
+      unwritten_of_script old new _ told report said u
   of_script (runs form captures) old new report said (inr st) = stops_of_script old new report said starving st tt
 
 -- so its status is neither of these
-pub never_unprinted : (tells : Bool) (s : Script) (old new : FilesView) (report : Option RunReport) (status : Status) (text : List ℕ) → Follows tells s old new report (Rattle.sn_run.specs.Texts.saying status text) → status ≢ PrintFault
+pub never_unprinted : (tells : Bool) (s : Script) (old new : FilesView) (report : Option RunReport) (status : Status)
+    (text : List ℕ) → Follows tells s old new report (Rattle.sn_run.specs.Texts.saying status text) → status ≢ PrintFault
 never_unprinted tells s old new report status text f is = subst IsOfScript (ap way_of is) (of_script tells s old new report _ f)
 
 -- there is a report just with these ways
@@ -116,33 +122,53 @@ reports tells (runs form captures) old new report said (inr st) = stops_reports 
 abbrev pub OfFaults : ℕ → ℕ → Said → Type 0
 OfFaults before now said = FaultsCounted before now said.way
 
-still_counts : (before now : ℕ) (said wanted : Said) → now ≡ before → SaysOrStarves said wanted → (now ≡ before → OfFaults before now wanted) → OfFaults before now said
-still_counts before now said wanted same either well = says (OfFaults before now) said wanted either (well same) (omega (arith, same))
+still_counts : (before now : ℕ) (said wanted : Said) → now ≡ before → SaysOrStarves said wanted
+    → (now ≡ before → OfFaults before now wanted) → OfFaults before now said
+still_counts before now said wanted same either well =
+    says (OfFaults before now) said wanted either (well same) (omega (arith, same))
 
 module _ (tells : Bool) where
-  unread_counts : (old new : FilesView) (name : List ℕ) (limit : ℕ) (fault : FileFault) → ReadRefused tells old new name limit fault → OfFaults old.faults new.faults (unread_said name fault)
+  unread_counts : (old new : FilesView) (name : List ℕ) (limit : ℕ) (fault : FileFault)
+      → ReadRefused tells old new name limit fault → OfFaults old.faults new.faults (unread_said name fault)
   unread_counts old new name limit Failed r = r.failed refl
   unread_counts old new name limit Long r = r.still (λ e. cc)
   unread_counts old new name limit NoMemory r = r.later
 
-  unwritten_counts : (old mid new : FilesView) (name : List ℕ) (told : RunReport) (report : Option RunReport) (said : Said) (fault : FileFault) → mid.faults ≡ old.faults → WriteRefused tells mid new name fault → SaysUnwritten fault name told report said → OfFaults old.faults new.faults said
-  unwritten_counts old mid new name told report said Failed same r s = subst (OfFaults old.faults new.faults) (sym s.1) (subst (λ n. Rattle.sn_outside.specs.Counts.FaultCounted n new.faults) same (r.failed refl))
+  unwritten_counts : (old mid new : FilesView) (name : List ℕ) (told : RunReport) (report : Option RunReport) (said : Said)
+      (fault : FileFault) → mid.faults ≡ old.faults → WriteRefused tells mid new name fault
+      → SaysUnwritten fault name told report said → OfFaults old.faults new.faults said
+  unwritten_counts old mid new name told report said Failed same r s =
+      subst (OfFaults old.faults new.faults) (sym s.1)
+      (subst (λ n. Rattle.sn_outside.specs.Counts.FaultCounted n new.faults) same (r.failed refl))
   unwritten_counts old mid new name told report said Long same r s = absurd s
-  unwritten_counts old mid new name told report said NoMemory same r s = subst (OfFaults old.faults new.faults) (sym s.1) (subst (λ n. n ≤ new.faults) same r.later)
+  unwritten_counts old mid new name told report said NoMemory same r s =
+      subst (OfFaults old.faults new.faults) (sym s.1) (subst (λ n. n ≤ new.faults) same r.later)
 
-  pub counts : (s : Script) (old new : FilesView) (report : Option RunReport) (said : Said) → Follows tells s old new report said → OfFaults old.faults new.faults said
+  pub counts : (s : Script) (old new : FilesView) (report : Option RunReport) (said : Said) → Follows tells s old new report said
+      → OfFaults old.faults new.faults said
   unfolding Follows
-  counts (prints text) old new report said f = still_counts old.faults new.faults said _ (ap (λ v. v.faults) f.same) f.says (λ e. e)
-  counts (refuses why) old new report said f = still_counts old.faults new.faults said _ (ap (λ v. v.faults) f.same) f.says (λ e. e)
-  counts (reads name limit next) old new report said (inl g) = subst (λ n. OfFaults n new.faults said) g.2.still (counts (next g.0) g.1 new report said g.3)
-  counts (reads name limit next) old new report said (inr (inl u)) = says (OfFaults old.faults new.faults) said (unread_said name u.fault) u.says (unread_counts old new name limit u.fault u.refused) u.refused.later
-  counts (reads name limit next) old new report said (inr (inr st)) = still_counts old.faults new.faults said starving (ap (λ v. v.faults) st.same) st.says (λ e. omega (arith, e))
+  counts (prints text) old new report said f =
+      still_counts old.faults new.faults said _ (ap (λ v. v.faults) f.same) f.says (λ e. e)
+  counts (refuses why) old new report said f =
+      still_counts old.faults new.faults said _ (ap (λ v. v.faults) f.same) f.says (λ e. e)
+  counts (reads name limit next) old new report said (inl g) =
+      subst (λ n. OfFaults n new.faults said) g.2.still (counts (next g.0) g.1 new report said g.3)
+  counts (reads name limit next) old new report said (inr (inl u)) =
+      says (OfFaults old.faults new.faults) said (unread_said name u.fault) u.says
+      (unread_counts old new name limit u.fault u.refused) u.refused.later
+  counts (reads name limit next) old new report said (inr (inr st)) =
+      still_counts old.faults new.faults said starving (ap (λ v. v.faults) st.same) st.says (λ e. omega (arith, e))
   counts (opens name bytes next) old new report said (inl g) = counts next old new report said g.1
-  counts (opens name bytes next) old new report said (inr (inl h)) = still_counts old.faults new.faults said _ (ap (λ v. v.faults) h.2.same) h.2.says (λ e. e)
-  counts (opens name bytes next) old new report said (inr (inr st)) = still_counts old.faults new.faults said starving (ap (λ v. v.faults) st.same) st.says (λ e. omega (arith, e))
-  counts (runs form captures) old new report said (inl (ran, told, run, inl f)) = subst (OfFaults old.faults new.faults) (sym f.says) f.written.still
-  counts (runs form captures) old new report said (inl (ran, told, run, inr u)) = unwritten_counts old u.up_to.between new u.file.name told report said u.fault u.up_to.written.still u.up_to.refused u.says
-  counts (runs form captures) old new report said (inr st) = still_counts old.faults new.faults said starving (ap (λ v. v.faults) st.same) st.says (λ e. omega (arith, e))
+  counts (opens name bytes next) old new report said (inr (inl h)) =
+      still_counts old.faults new.faults said _ (ap (λ v. v.faults) h.2.same) h.2.says (λ e. e)
+  counts (opens name bytes next) old new report said (inr (inr st)) =
+      still_counts old.faults new.faults said starving (ap (λ v. v.faults) st.same) st.says (λ e. omega (arith, e))
+  counts (runs form captures) old new report said (inl (ran, told, run, inl f)) =
+      subst (OfFaults old.faults new.faults) (sym f.says) f.written.still
+  counts (runs form captures) old new report said (inl (ran, told, run, inr u)) =
+      unwritten_counts old u.up_to.between new u.file.name told report said u.fault u.up_to.written.still u.up_to.refused u.says
+  counts (runs form captures) old new report said (inr st) =
+      still_counts old.faults new.faults said starving (ap (λ v. v.faults) st.same) st.says (λ e. omega (arith, e))
 
 -- each way but one has one text
 abbrev pub HasOwnText : Said → Type 0
@@ -153,21 +179,30 @@ unread_text_own name Failed other = refl
 unread_text_own name Long other = refl
 unread_text_own name NoMemory other = refl
 
-unwritten_own : (fault : FileFault) (name : List ℕ) (told : RunReport) (report : Option RunReport) (said : Said) → SaysUnwritten fault name told report said → HasOwnText said
+unwritten_own : (fault : FileFault) (name : List ℕ) (told : RunReport) (report : Option RunReport) (said : Said)
+    → SaysUnwritten fault name told report said → HasOwnText said
 unwritten_own Failed name told report said s = subst HasOwnText (sym s.1) (λ other. refl)
 unwritten_own Long name told report said s = absurd s
 unwritten_own NoMemory name told report said s = subst HasOwnText (sym s.1) (λ other. refl)
 
-pub own_text : (tells : Bool) (s : Script) (old new : FilesView) (report : Option RunReport) (said : Said) → Follows tells s old new report said → HasOwnText said
+pub own_text : (tells : Bool) (s : Script) (old new : FilesView) (report : Option RunReport) (said : Said)
+    → Follows tells s old new report said → HasOwnText said
 unfolding Follows
 own_text tells (prints text) old new report said f = says HasOwnText said _ f.says (λ other. absurd (other refl)) (λ other. refl)
 own_text tells (refuses why) old new report said f = says HasOwnText said _ f.says (λ other. refl) (λ other. refl)
 own_text tells (reads name limit next) old new report said (inl g) = own_text tells (next g.0) g.1 new report said g.3
-own_text tells (reads name limit next) old new report said (inr (inl u)) = says HasOwnText said (unread_said name u.fault) u.says (unread_text_own name u.fault) (λ other. refl)
-own_text tells (reads name limit next) old new report said (inr (inr st)) = says HasOwnText said starving st.says (λ other. refl) (λ other. refl)
+own_text tells (reads name limit next) old new report said (inr (inl u)) =
+    says HasOwnText said (unread_said name u.fault) u.says (unread_text_own name u.fault) (λ other. refl)
+own_text tells (reads name limit next) old new report said (inr (inr st)) =
+    says HasOwnText said starving st.says (λ other. refl) (λ other. refl)
 own_text tells (opens name bytes next) old new report said (inl g) = own_text tells next old new report said g.1
-own_text tells (opens name bytes next) old new report said (inr (inl h)) = says HasOwnText said _ h.2.says (λ other. refl) (λ other. refl)
-own_text tells (opens name bytes next) old new report said (inr (inr st)) = says HasOwnText said starving st.says (λ other. refl) (λ other. refl)
-own_text tells (runs form captures) old new report said (inl (ran, told, run, inl f)) = subst HasOwnText (sym f.says) (λ other. refl)
-own_text tells (runs form captures) old new report said (inl (ran, told, run, inr u)) = unwritten_own u.fault u.file.name told report said u.says
-own_text tells (runs form captures) old new report said (inr st) = says HasOwnText said starving st.says (λ other. refl) (λ other. refl)
+own_text tells (opens name bytes next) old new report said (inr (inl h)) =
+    says HasOwnText said _ h.2.says (λ other. refl) (λ other. refl)
+own_text tells (opens name bytes next) old new report said (inr (inr st)) =
+    says HasOwnText said starving st.says (λ other. refl) (λ other. refl)
+own_text tells (runs form captures) old new report said (inl (ran, told, run, inl f)) =
+    subst HasOwnText (sym f.says) (λ other. refl)
+own_text tells (runs form captures) old new report said (inl (ran, told, run, inr u)) =
+    unwritten_own u.fault u.file.name told report said u.says
+own_text tells (runs form captures) old new report said (inr st) =
+    says HasOwnText said starving st.says (λ other. refl) (λ other. refl)

@@ -1,5 +1,6 @@
 -- Files written one after another.
-use Rattle.std.proofs.Common.{◌≡◌, ℕ, ◌+◌, ◌<◌, Bool, true, List, [], ◌∷◌, ◌++◌, Ok, length, map, take, drop, Option, Some, None, inl, inr, arith, refl, sym, ap, ◌∙◌, subst, append_assoc}
+use Rattle.std.proofs.Common.{◌≡◌, ℕ, ◌+◌, ◌<◌, Bool, true, List, [], ◌∷◌, ◌++◌, Ok, length, map, take, drop, Option, Some, None}
+use Rattle.std.proofs.Common.{inl, inr, arith, refl, sym, ap, ◌∙◌, subst, append_assoc}
 use Rattle.std.proofs.lemmas.List.{drop_more, get_or-append-add, get_or-map, get_or_append_left, length-append, length-map}
 use Rattle.std.proofs.lemmas.List.{map-append, take-append-drop, take-append-le, take_more}
 use Rattle.std.proofs.Math.Seq.{take-append-add}
@@ -20,7 +21,8 @@ use Rattle.sn_run.specs.declared.answer.Refusal.{Refusal}
 use Rattle.sn_run.specs.declared.outcome.Outcome.{Outcome}
 
 -- files and others behind them
-pub with_both : (m : Contents) (front behind : List WrittenFile) → with_files m (front ++ behind) ≡ with_files (with_files m front) behind
+pub with_both : (m : Contents) (front behind : List WrittenFile)
+    → with_files m (front ++ behind) ≡ with_files (with_files m front) behind
 with_both m [] behind = refl
 with_both m (file ∷ front) behind = with_both (insert m file.name file.bytes) front behind
 
@@ -34,31 +36,39 @@ the_err fault = Err fault
 never_failed : (x : Unit {0}) → the_ok x ≡ the_err Failed → ⊥
 never_failed x e = cc
 
-module _ (tells : Bool) (old now new : FilesView) (files : List WrittenFile) (at : ℕ) (file : WrittenFile) (within : at < length files) (here : file ≡ get_or files at file) (before : Written tells old now (take at files)) where
+module _ (tells : Bool) (old now new : FilesView) (files : List WrittenFile) (at : ℕ) (file : WrittenFile)
+    (within : at < length files) (here : file ≡ get_or files at file) (before : Written tells old now (take at files)) where
   one_more : take (at + 1) files ≡ take at files ++ file ∷ []
   one_more = take_more files at file within ∙ ap (λ (f : WrittenFile). take at files ++ f ∷ []) (sym here)
 
-  one_written : (x : Unit {0}) → HasCause now new (Ok x) → (tells ≡ true → ToldWrite now new file.name file.bytes (Ok x)) → Written tells old new (take (at + 1) files)
+  one_written : (x : Unit {0}) → HasCause now new (Ok x) → (tells ≡ true → ToldWrite now new file.name file.bytes (Ok x))
+      → Written tells old new (take (at + 1) files)
   one_written x cause told = record {
-    contents = λ t. (told t).written ∙ ap (λ m. insert m file.name file.bytes) (before.contents t) ∙ sym (with_both old.contents (take at files) (file ∷ [])) ∙ ap (with_files old.contents) (sym one_more);
+    contents =
+        λ t. (told t).written ∙ ap (λ m. insert m file.name file.bytes) (before.contents t) ∙ sym
+        (with_both old.contents (take at files) (file ∷ [])) ∙ ap (with_files old.contents) (sym one_more);
     called = λ t.
         (told t).call
         ∙ ap (λ cs. cs ++ write_call file ∷ []) (before.called t)
         ∙ append_assoc old.calls (map write_call (take at files)) (write_call file ∷ [])
-        ∙ ap (λ cs. old.calls ++ cs) (sym (map-append write_call (take at files) (file ∷ [])) ∙ ap (map write_call) (sym one_more));
+        ∙ ap (λ cs. old.calls ++ cs)
+        (sym (map-append write_call (take at files) (file ∷ [])) ∙ ap (map write_call) (sym one_more));
     still = cause.still (never_failed x) ∙ before.still;
   }
 
   -- one file more was written
-  pub written_more : (x : Unit {0}) (name bytes : List ℕ) → name ≡ file.name → bytes ≡ file.bytes → HasCause now new (Ok x) → (tells ≡ true → ToldWrite now new name bytes (Ok x)) → Written tells old new (take (at + 1) files)
+  pub written_more : (x : Unit {0}) (name bytes : List ℕ) → name ≡ file.name → bytes ≡ file.bytes → HasCause now new (Ok x)
+      → (tells ≡ true → ToldWrite now new name bytes (Ok x)) → Written tells old new (take (at + 1) files)
   written_more x name bytes name_is bytes_is cause told =
-      one_written x cause (λ t. subst (λ n. ToldWrite now new n file.bytes (Ok x)) name_is (subst (λ b. ToldWrite now new name b (Ok x)) bytes_is (told t)))
+      one_written x cause (λ t. subst (λ n. ToldWrite now new n file.bytes (Ok x)) name_is
+      (subst (λ b. ToldWrite now new name b (Ok x)) bytes_is (told t)))
 
 same_fault : (fault : FileFault) → the_err fault ≡ the_err Failed → fault ≡ Failed
 same_fault fault e = cc
 
 -- a write was refused with this fault
-write_refused : (tells : Bool) (old new : FilesView) (name bytes : List ℕ) (fault : FileFault) → HasCause old new (the_err fault) → (tells ≡ true → ToldWrite old new name bytes (Err fault)) → WriteRefused tells old new name fault
+write_refused : (tells : Bool) (old new : FilesView) (name bytes : List ℕ) (fault : FileFault) → HasCause old new (the_err fault)
+    → (tells ≡ true → ToldWrite old new name bytes (Err fault)) → WriteRefused tells old new name fault
 write_refused tells old new name bytes fault cause told = record {
   others = λ t. (told t).others;
   kept = λ t lacks. (told t).kept (ap Err lacks);
@@ -69,12 +79,18 @@ write_refused tells old new name bytes fault cause told = record {
 }
 
 -- the files of a run up to one that was not written
-pub split_at : (files : List WrittenFile) (at : ℕ) (file : WrittenFile) → at < length files → file ≡ get_or files at file → files ≡ take at files ++ file ∷ drop (at + 1) files
+pub split_at : (files : List WrittenFile) (at : ℕ) (file : WrittenFile) → at < length files → file ≡ get_or files at file
+    → files ≡ take at files ++ file ∷ drop (at + 1) files
 split_at files at file within here =
-    sym (take-append-drop at files) ∙ ap (λ (d : List WrittenFile). take at files ++ d) (drop_more files at file within ∙ ap (λ (f : WrittenFile). f ∷ drop (at + 1) files) (sym here))
+    sym (take-append-drop at files) ∙ ap (λ (d : List WrittenFile). take at files ++ d)
+    (drop_more files at file within ∙ ap (λ (f : WrittenFile). f ∷ drop (at + 1) files) (sym here))
 
 -- files were written up to one whose write was refused
-pub write_stops : (tells : Bool) (old now new : FilesView) (files : List WrittenFile) (at : ℕ) (file : WrittenFile) → at < length files → file ≡ get_or files at file → Written tells old now (take at files) → (name bytes : List ℕ) (fault : FileFault) → name ≡ file.name → HasCause now new (the_err fault) → (tells ≡ true → ToldWrite now new name bytes (Err fault)) → (the_err fault ≡ the_err TooLong → ⊥) → WriteStops tells old new files at fault
+pub write_stops : (tells : Bool) (old now new : FilesView) (files : List WrittenFile) (at : ℕ) (file : WrittenFile)
+    → at < length files → file ≡ get_or files at file → Written tells old now (take at files)
+    → (name bytes : List ℕ) (fault : FileFault) → name ≡ file.name → HasCause now new (the_err fault)
+    → (tells ≡ true → ToldWrite now new name bytes (Err fault)) → (the_err fault ≡ the_err TooLong → ⊥)
+    → WriteStops tells old new files at fault
 write_stops tells old now new files at file within here before name bytes fault name_is cause told short = record {
   file = file;
   here = here;
@@ -131,13 +147,18 @@ stops_behind tells old now new front behind at fault first s = record {
 
 -- as many answers as files were made
 pub prepared_for : (answers : List Refusal) (files : List WrittenFile) → PreparedFor answers files → length answers ≡ length files
-prepared_for answers files prepared = sym (length-map answers (λ (r : Refusal). saying r.status r.text.items)) ∙ ap length prepared ∙ length-map files (λ (f : WrittenFile). said_of (unwritten f.name))
+prepared_for answers files prepared =
+    sym (length-map answers (λ (r : Refusal). saying r.status r.text.items)) ∙ ap length prepared ∙ length-map files
+    (λ (f : WrittenFile). said_of (unwritten f.name))
 
 -- what holds of the answers that were made for files holds of each
-prepared_at : (answers : List Refusal) (files : List WrittenFile) (at : ℕ) (file : WrittenFile) (answer : Refusal) → PreparedFor answers files → at < length files → file ≡ get_or files at file → answer ≡ get_or answers at answer → saying answer.status answer.text.items ≡ said_of (unwritten file.name)
+prepared_at : (answers : List Refusal) (files : List WrittenFile) (at : ℕ) (file : WrittenFile) (answer : Refusal)
+    → PreparedFor answers files → at < length files → file ≡ get_or files at file → answer ≡ get_or answers at answer
+    → saying answer.status answer.text.items ≡ said_of (unwritten file.name)
 prepared_at answers files at file answer prepared within here is =
     ap (λ (r : Refusal). saying r.status r.text.items) is
-    ∙ sym (get_or-map (λ (r : Refusal). saying r.status r.text.items) answers at answer (said_of (unwritten file.name)) (omega (arith, within, prepared_for answers files prepared)))
+    ∙ sym (get_or-map (λ (r : Refusal). saying r.status r.text.items) answers at answer (said_of (unwritten file.name))
+    (omega (arith, within, prepared_for answers files prepared)))
     ∙ ap (λ (l : List Said). get_or l at (said_of (unwritten file.name))) prepared
     ∙ get_or-map (λ (f : WrittenFile). said_of (unwritten f.name)) files at file (said_of (unwritten file.name)) within
     ∙ ap (λ (f : WrittenFile). said_of (unwritten f.name)) (sym here)
@@ -176,7 +197,8 @@ module _ (tells : Bool) (old new : FilesView) (files : List WrittenFile) (ran : 
 
 -- the same for a report's files and those behind them
 module _ (tells : Bool) (old new : FilesView) (behind : List WrittenFile) (ran : Outcome) (told : RunReport) (at : ℕ)
-    (fault : FileFault) (report : Option RunReport) (said : Said) (written : List WrittenFile) (written_are : written ≡ told.files)
+    (fault : FileFault) (report : Option RunReport) (said : Said) (written : List WrittenFile)
+    (written_are : written ≡ told.files)
     (stops : WriteStops tells old new (written ++ behind) at fault) where
   stops_at : WriteStops tells old new (told.files ++ behind) at fault
   stops_at = subst (λ fs. WriteStops tells old new (fs ++ behind) at fault) written_are stops

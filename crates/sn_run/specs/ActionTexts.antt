@@ -7,7 +7,8 @@ use Rattle.sn_names.specs.declared.arg.Arg.{Arg}
 use Rattle.sn_names.specs.declared.arg.Arg.TheVariants.{Nothing, Number, Byte, File, Lane}
 use Rattle.sn_config.specs.declared.app_spec.AppSpec.{AppSpec}
 use Rattle.sn_actions.specs.declared.action.Action.{Action}
-use Rattle.sn_actions.specs.declared.action.Action.TheVariants.{UnlinkOutput, UnlinkInput, FreeLink, StopApp, StartApp, ReconfigApp, NewLink, LinkOutput, LinkInput, Commit}
+use Rattle.sn_actions.specs.declared.action.Action.TheVariants.{UnlinkOutput, UnlinkInput, FreeLink, StopApp, StartApp}
+use Rattle.sn_actions.specs.declared.action.Action.TheVariants.{ReconfigApp, NewLink, LinkOutput, LinkInput, Commit}
 
 -- an argument, behind a space where there is one
 abbrev pub arg_text : Arg → List ℕ

@@ -1,5 +1,6 @@
 -- What the top call says of its answer.
-use Rattle.std.specs.Prelude.{ℕ, Bool, true, false, ◌-◌, ◌≡◌, ◌≢◌, ◌⊎◌, ◌≤◌, List, [], ◌∷◌, ◌++◌, Ok, Option, Some, None, length, min, unwrap_or}
+use Rattle.std.specs.Prelude.{ℕ, Bool, true, false, ◌-◌, ◌≡◌, ◌≢◌, ◌⊎◌, ◌≤◌, List, [], ◌∷◌, ◌++◌, Ok, Option, Some, None, length}
+use Rattle.std.specs.Prelude.{min, unwrap_or}
 use Rattle.std.specs.FinMap.{get}
 use Rattle.sn_outside.specs.Contents.{Contents}
 use Rattle.sn_outside.specs.Counts.{FaultCounted}

@@ -1,5 +1,6 @@
 -- The scenarios that run so far: one worker copies a capture.
-use Rattle.std.specs.Prelude.{ℕ, ◌*◌, ◌≡◌, ◌&&◌, Bool, true, false, List, [], ◌∷◌, ◌++◌, Option, Some, None, Ok, codes, nat_le, bytes_eq}
+use Rattle.std.specs.Prelude.{ℕ, ◌*◌, ◌≡◌, ◌&&◌, Bool, true, false, List, [], ◌∷◌, ◌++◌, Option, Some, None, Ok, codes, nat_le}
+use Rattle.std.specs.Prelude.{bytes_eq}
 use Rattle.std.specs.Fmt.{decimal}
 use Rattle.sn_scenario.specs.PlainText.{plain_text}
 use Rattle.sn_scenario.specs.ScenarioText.{scenario_of}

@@ -23,7 +23,8 @@ pub record Stops (old new : FilesView) (report : Option RunReport) (said wanted 
   pub says : SaysOrStarves said wanted
 
 -- a file was not read, and that ends it
-pub record Unread (tells : Bool) (old new : FilesView) (name : List ℕ) (limit : ℕ) (report : Option RunReport) (said : Said) : Type 0 where
+pub record Unread (tells : Bool) (old new : FilesView) (name : List ℕ) (limit : ℕ) (report : Option RunReport)
+    (said : Said) : Type 0 where
   pub fault : FileFault
   pub refused : ReadRefused tells old new name limit fault
   pub none : report ≡ None
@@ -43,7 +44,8 @@ SaysUnwritten TooLong name told report said = ⊥
 SaysUnwritten OutOfMemory name told report said = (report ≡ None) × (said ≡ starving)
 
 -- a file of a run was not written, and no later one was tried
-pub record Unwritten (tells : Bool) (old new : FilesView) (files : List WrittenFile) (told : RunReport) (report : Option RunReport)
+pub record Unwritten (tells : Bool) (old new : FilesView) (files : List WrittenFile) (told : RunReport)
+    (report : Option RunReport)
     (said : Said) : Type 0 where
   pub file : WrittenFile
   pub fault : FileFault
@@ -60,7 +62,8 @@ unfoldable pub Follows : Bool → Script → FilesView → FilesView → Option 
 Follows tells (prints text) old new report said = Stops old new report said (record { way = done; text = text })
 Follows tells (refuses why) old new report said = Stops old new report said (said_of (refused why))
 Follows tells (reads name limit next) old new report said =
-    ((bytes : List ℕ) × (between : FilesView) × ReadGave tells old between name limit bytes × Follows tells (next bytes) between new report said)
+    ((bytes : List ℕ) × (between : FilesView) × ReadGave tells old between name limit bytes × Follows tells (next bytes) between
+    new report said)
     ⊎ (Unread tells old new name limit report said ⊎ Stops old new report said starving)
 Follows tells (opens name bytes next) old new report said =
     (IsCapture bytes × Follows tells next old new report said)

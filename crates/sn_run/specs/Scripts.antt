@@ -41,11 +41,13 @@ captures_script form (name ∷ names) room before =
 
 -- a scenario that doesn't run yet is refused
 abbrev pub run_script : List ℕ → List ℕ → ScenarioForm → Script
-run_script file text form = cond (runs_now text form) (captures_script form form.captures most_captures []) (refuses (not_yet file))
+run_script file text form =
+    cond (runs_now text form) (captures_script form form.captures most_captures []) (refuses (not_yet file))
 
 -- and so is a worker that the scenario doesn't have
 abbrev pub actions_script : ℕ → ScenarioForm → Script
-actions_script worker form = cond (nat_lt worker form.settings.workers) (prints (actions_text 1 (plan_of worker form))) (refuses (no_worker worker))
+actions_script worker form =
+    cond (nat_lt worker form.settings.workers) (prints (actions_text 1 (plan_of worker form))) (refuses (no_worker worker))
 
 abbrev pub form_script : List ℕ → List ℕ → ScenarioForm → Command → Script
 form_script file text form Run = run_script file text form

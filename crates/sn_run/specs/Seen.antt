@@ -77,7 +77,8 @@ pub record WriteRefused (tells : Bool) (old new : FilesView) (name : List ℕ) (
   pub still : (fault ≡ Failed → ⊥) → new.faults ≡ old.faults
 
 -- files were written up to this one, whose write was refused with this fault
-pub record WrittenUpTo (tells : Bool) (old new : FilesView) (files : List WrittenFile) (file : WrittenFile) (fault : FileFault) : Type 0 where
+pub record WrittenUpTo (tells : Bool) (old new : FilesView) (files : List WrittenFile) (file : WrittenFile)
+    (fault : FileFault) : Type 0 where
   pub front : List WrittenFile
   pub behind : List WrittenFile
   pub files_are : files ≡ front ++ file ∷ behind

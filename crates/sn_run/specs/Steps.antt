@@ -46,11 +46,13 @@ CaptureEnds tells old new name limit said =
 abbrev pub LeadOn : Bool → FilesView → FilesView → List (List ℕ) → List (List ℕ) → Type 0
 LeadOn tells old new names captures =
     (form : ScenarioForm) (last : FilesView) (report : Option RunReport) (said : Said)
-    → Follows tells (runs form captures) new last report said → Follows tells (captures_script form names most_captures []) old last report said
+    → Follows tells (runs form captures) new last report said → Follows tells
+    (captures_script form names most_captures []) old last report said
 
 -- one of the captures ended a command
 abbrev pub CapturesEnd : Bool → FilesView → FilesView → List (List ℕ) → Said → Type 0
-CapturesEnd tells old new names said = (form : ScenarioForm) → Follows tells (captures_script form names most_captures []) old new None said
+CapturesEnd tells old new names said =
+    (form : ScenarioForm) → Follows tells (captures_script form names most_captures []) old new None said
 
 -- the files of a run were written, all or up to the first that was refused, or memory lacked before
 abbrev pub EndsRun : Bool → FilesView → FilesView → List WrittenFile → Outcome → RunReport → Option RunReport → Said → Type 0

@@ -2,7 +2,8 @@
 ghost use Rattle.sn_pcap.specs.Places.{payloads_at, payloads_of, payload_of, IsPlace, IsRecordOf};
 ghost use Rattle.sn_pcap.specs.Written.{written, written_header, written_record};
 ghost use Rattle.sn_run.specs.Reported.{fits, copied};
-ghost use Rattle.std.specs.Prelude.{ℕ, List, [], ◌∷◌, ◌++◌, IfOk, IsTrue, OnErr, OnOk, length, take, drop, filter, flat_map, ◌+◌, ◌-◌, ◌≡◌, ◌<◌, ◌≤◌, ◌↔◌};
+ghost use Rattle.std.specs.Prelude.{ℕ, List, [], ◌∷◌, ◌++◌, IfOk, IsTrue, OnErr, OnOk, length};
+ghost use Rattle.std.specs.Prelude.{take, drop, filter, flat_map, ◌+◌, ◌-◌, ◌≡◌, ◌<◌, ◌≤◌, ◌↔◌};
 
 use sn_pcap::{Capture, RecordAt, write_header, write_record};
 use std::alloc::{AllocError, Global};

@@ -11,7 +11,8 @@ ghost use Rattle.sn_run.specs.Scripts.{command_script};
 ghost use Rattle.sn_run.specs.Seen.{seen};
 ghost use Rattle.sn_run.specs.Texts.{Said, saying};
 ghost use Rattle.sn_run.specs.Ways.{way_of};
-ghost use Rattle.std.specs.Prelude.{ℕ, List, true, Some, None, IfOk, IfSome, IsSome, is_some, map, string_bytes, length, ◌≡◌, ◌≢◌, ◌⊎◌, ◌↔◌, ◌≤◌};
+ghost use Rattle.std.specs.Prelude.{ℕ, List, true, Some, None, IfOk, IfSome, IsSome, is_some, map, string_bytes, length};
+ghost use Rattle.std.specs.Prelude.{◌≡◌, ◌≢◌, ◌⊎◌, ◌↔◌, ◌≤◌};
 
 use crate::answer::{Answer, starved};
 use crate::command::{Command, command_of};

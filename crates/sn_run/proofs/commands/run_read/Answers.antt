@@ -7,7 +7,9 @@ pub run_scenario-requires-clause-captures : goal.run_scenario-requires-clause-ca
 run_scenario-requires-clause-captures g c = c.in-Ok.ensures.count ∙ ap length c.captures-2.ensures.same
 
 pub returns-in_default : goal.returns-in_default
-returns-in_default g c = read_on _ _ _ _ _ _ _ _ _ _ c.captures-2.ensures.same refl c.in-Ok.ensures.ok (starves _ _ _ _ _ c.starved.ensures.report c.starved.ensures.says)
+returns-in_default g c =
+    read_on _ _ _ _ _ _ _ _ _ _ c.captures-2.ensures.same refl c.in-Ok.ensures.ok
+    (starves _ _ _ _ _ c.starved.ensures.report c.starved.ensures.says)
 
 pub returns-in_default-journal_files : goal.returns-in_default-journal_files
 returns-in_default-journal_files g c =

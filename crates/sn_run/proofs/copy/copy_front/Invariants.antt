@@ -7,6 +7,7 @@ use Rattle.sn_run.proofs.copy.copy_front.Given as goal
 abbrev pub invariant-loop-turn : goal.invariant-loop-turn
 invariant-loop-turn l = record {
   place : IsPlace l.capture l.at;
-  copies : l.into.items ++ bytes_of (l.most - l._turn) (payloads_at l.capture l.at) ≡ l.fn.into.items ++ bytes_of l.most (payloads_at l.capture 24);
+  copies : l.into.items ++ bytes_of (l.most - l._turn)
+      (payloads_at l.capture l.at) ≡ l.fn.into.items ++ bytes_of l.most (payloads_at l.capture 24);
   rest : drop (l.most - l._turn) (payloads_at l.capture l.at) ≡ drop l.most (payloads_at l.capture 24);
 }

@@ -14,4 +14,5 @@ pub returns-in-Ok-copy-clause-err : goal.returns-in-Ok-copy-clause-err
 returns-in-Ok-copy-clause-err g c =
     let refusal = c.refusal_of.result in
     capture_ends _ _ _ _ _ _ c.in-Err-open.fault _ c.in-Ok.ensures.ok c.in-Err-open.ensures.cause
-    (subst (λ n. SaysOrStarves (saying refusal.status refusal.text.items) (said_of (refused (no_capture n c.in-Err-open.fault)))) c.in-Ok-copy.ensures c.refusal_of.ensures)
+    (subst (λ n. SaysOrStarves (saying refusal.status refusal.text.items)
+    (said_of (refused (no_capture n c.in-Err-open.fault)))) c.in-Ok-copy.ensures c.refusal_of.ensures)

@@ -7,5 +7,6 @@ abbrev pub invariant-loop-name : goal.invariant-loop-name
 invariant-loop-name g l = record {
   room : l.room ≤ 67108864;
   count : length l.captures.items ≡ l.name-index;
-  leads : LeadsOn g.F.Files.tells (g.F.Files.state l.fn.files) (g.F.Files.state l.files) l.names l.name-index l.room l.captures.items;
+  leads : LeadsOn g.F.Files.tells (g.F.Files.state l.fn.files)
+      (g.F.Files.state l.files) l.names l.name-index l.room l.captures.items;
 }

@@ -1,5 +1,6 @@
 -- What the course of the call says of its answer, and both directions of each cause.
-use Rattle.sn_run.proofs.AnswerClauses.{bad_words_of, calls_of, caused_of, counts_of, expected_of, headline_of, leaves_of, never_unprinted_of, reports_of, shown_taken, text_of_answer, front_of_answer}
+use Rattle.sn_run.proofs.AnswerClauses.{bad_words_of, calls_of, caused_of, counts_of, expected_of, headline_of, leaves_of}
+use Rattle.sn_run.proofs.AnswerClauses.{never_unprinted_of, reports_of, shown_taken, text_of_answer, front_of_answer}
 use Rattle.sn_run.proofs.top.snabb_main.Goals as goal
 
 pub returns-clause-headline : goal.returns-clause-headline
@@ -21,14 +22,16 @@ pub returns-clause-caused : goal.returns-clause-caused
 returns-clause-caused g c = caused_of _ _ _ _ c.answer_words.ensures.answered.course
 
 pub returns-clause-expected : goal.returns-clause-expected
-returns-clause-expected g c said due = expected_of _ _ c.one_fault.ensures c.no_fault.ensures _ _ said c.answer_words.ensures.answered.course due
+returns-clause-expected g c said due =
+    expected_of _ _ c.one_fault.ensures c.no_fault.ensures _ _ said c.answer_words.ensures.answered.course due
 
 pub returns-clause-faults : goal.returns-clause-faults
 returns-clause-faults g c = counts_of _ _ _ _ c.answer_words.ensures.answered.course
 
 pub returns-clause-shown : goal.returns-clause-shown
 returns-clause-shown g c said t expected is =
-    shown_taken _ _ c.one_fault.ensures c.no_fault.ensures _ _ said c.answer_words.ensures.answered c.answer_words.ensures.replaced t expected is
+    shown_taken _ _ c.one_fault.ensures c.no_fault.ensures _ _ said c.answer_words.ensures.answered
+    c.answer_words.ensures.replaced t expected is
 
 pub returns-clause-never_replaced : goal.returns-clause-never_replaced
 returns-clause-never_replaced g c is = never_unprinted_of _ _ _ _ _ _ c.answer_words.ensures.answered.course is
