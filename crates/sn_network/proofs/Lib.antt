@@ -17,3 +17,4 @@ mod Orderly
 mod Cut
 mod Counted
 mod QueuedRows
+pub mod Noted

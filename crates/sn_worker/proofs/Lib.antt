@@ -1,0 +1,8 @@
+mod Applied
+mod Noting
+mod Prefixes
+mod Ranges
+mod Staying
+mod Steps
+mod Turning
+mod Works
