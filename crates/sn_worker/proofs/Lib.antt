@@ -1,4 +1,5 @@
 mod Applied
+mod Listed
 mod Noting
 mod Prefixes
 mod Ranges

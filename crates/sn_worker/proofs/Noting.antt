@@ -1,5 +1,6 @@
 -- An entry of the worker's own is noted: it is read, and nothing else changes.
-use Rattle.std.proofs.Common.{◌≡◌, ◌&&◌, ℕ, Bool, true, false, List, [], ◌∷◌, Option, Some, None, if◌then◌else◌, ◌==◌, Ok, Err, refl, sym, ap, subst}
+use Rattle.std.proofs.Common.{◌≡◌, ◌&&◌, ◌==◌, ℕ, Bool, true, false, List, [], ◌∷◌, Option, Some, None, if◌then◌else◌, Ok, Err}
+use Rattle.std.proofs.Common.{refl, sym, ap, subst}
 use Rattle.std.proofs.lemmas.Bool.{eq-eqb}
 use Rattle.sn_app.specs.Answers.{AnswersCase, OnTray, Stays}
 use Rattle.sn_app.specs.Desk.{Tray, after_entry}
@@ -50,7 +51,8 @@ pub round_read : (number : ℕ) → a_round number (Round number) ≡ Some tt
 round_read number = due_if (number == number) (eq-eqb number number refl)
 
 -- the entry is read
-pub runs_noted : (f : Entry → Option (Unit {0})) (entry : Entry) (t s : Tray) (u v : Used) (slots : List (Option Line)) (mine : ℕ → ℕ)
+pub runs_noted : (f : Entry → Option (Unit {0})) (entry : Entry) (t s : Tray) (u v : Used) (slots : List (Option Line))
+    (mine : ℕ → ℕ)
     → f entry ≡ Some tt → t.log.constants.may entry ≡ true → s ≡ after_entry entry t → v ≡ u
     → Runs (read f) (world t u slots) (world s v slots) mine mine (Ok tt)
 runs_noted f entry t s u v slots mine is may noted same =

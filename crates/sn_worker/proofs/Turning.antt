@@ -1,5 +1,6 @@
 -- What a worker does in a turn, part by part, as the turn's meaning has it.
-use Rattle.std.proofs.Common.{◌≡◌, ℕ, ◌+◌, Bool, true, false, not, if◌then◌else◌, List, [], ◌∷◌, ◌++◌, Result, Ok, Err, sym, ap, subst}
+use Rattle.std.proofs.Common.{◌≡◌, ℕ, ◌+◌, Bool, true, false, not, if◌then◌else◌, List, [], ◌∷◌, ◌++◌, Result, Ok, Err}
+use Rattle.std.proofs.Common.{sym, ap, subst}
 use Rattle.sn_actions.specs.declared.action.Action.{Action}
 use Rattle.sn_app.specs.Reader.{Meaning, pure, ◌>>=◌, read, stepping}
 use Rattle.sn_app.specs.Runs.{Runs, stands_at}
@@ -45,7 +46,8 @@ module _ (action : Action) (life : Life) (w v : World) (before between : ℕ →
   waiting_fails halt after applied = runs_fail after_waiting after applied
 
   pub commit_fails : (mid : Net) (z : World) (inner after : ℕ → ℕ) (halt : Halt)
-      → Runs (folding life.waiting acts life.net) w v before between (Ok mid) → Runs (acts action mid) v z between inner (Err halt)
+      → Runs (folding life.waiting acts life.net) w v before between (Ok mid)
+      → Runs (acts action mid) v z between inner (Err halt)
       → Runs (commits action life) w z before after (Err halt)
   unfolding commits after_waiting
   commit_fails mid z inner after halt applied committed =
@@ -102,7 +104,8 @@ module _ (plan : List Action) (due : ℕ) (life : Life) (w v z : World) (before 
   taking_next : Unit {0} → Meaning Life
   taking_next done = folding (next_actions plan due life.taken) takes life >>= breathes plan
 
-  pub runs_works : (taken : Life) (x : World) (after : ℕ → ℕ) (r : Result Life Halt) → Runs (read (a_due due)) w v before before (Ok tt)
+  pub runs_works : (taken : Life) (x : World) (after : ℕ → ℕ) (r : Result Life Halt)
+      → Runs (read (a_due due)) w v before before (Ok tt)
       → Runs (folding (next_actions plan due life.taken) takes life) v z before between (Ok taken)
       → Runs (breathes plan taken) z x between after r → Runs (working_turn plan due life) w x before after r
   unfolding working_turn taking_next
@@ -118,7 +121,8 @@ pub runs_last : (life next : Life) (w v : World) (mine : ℕ → ℕ) → record
     → Runs (read a_spent) w v mine mine (Ok tt) → Runs (last_turn life) w v mine mine (Ok next)
 unfolding last_turn
 runs_last life next w v mine e noted =
-    same_value e (runs_bind (λ noted. pure (record life { spent = true })) noted (runs_pure (record life { spent = true }) v mine))
+    same_value e
+    (runs_bind (λ noted. pure (record life { spent = true })) noted (runs_pure (record life { spent = true }) v mine))
 
 module _ (plan : List Action) (due : ℕ) (life : Life) (w v : World) (before after : ℕ → ℕ) (r : Result Life Halt) where
   pub turn_full : is_full w.tray ≡ true → Runs (last_turn life) w v before after r → Runs (turn plan due life) w v before after r
@@ -157,7 +161,8 @@ turn_fails plan due life w v before inner after halt run = runs_fail unless_spen
 
 pub runs_round : (plan : List Action) (breaths due number : ℕ) (life : Life) (w v z : World) (before after : ℕ → ℕ)
     (r : Result Life Halt) → Runs (read (a_round number)) w v before before (Ok tt)
-    → Runs (stepping breaths (one_turn plan due) life) v z before after r → Runs (round plan breaths due number life) w z before after r
+    → Runs (stepping breaths (one_turn plan due) life) v z before after r
+    → Runs (round plan breaths due number life) w z before after r
 unfolding round
 runs_round plan breaths due number life w v z before after r noted run =
     runs_bind (λ noted. stepping breaths (one_turn plan due) life) noted run
@@ -177,14 +182,16 @@ module _ (plan : List Action) (breaths : ℕ) (due : ℕ → ℕ) (number : ℕ)
   next_round : Life → Meaning (Bool × (ℕ × Life))
   next_round later = pure (not later.spent, (number + 1, later))
 
-  pub round_goes_on : (next : Life) → next.spent ≡ false → Runs (round plan breaths (due number) number life) w v before after (Ok next)
+  pub round_goes_on : (next : Life) → next.spent ≡ false
+      → Runs (round plan breaths (due number) number life) w v before after (Ok next)
       → Runs (one_round plan breaths due (number, life)) w v before after (Ok (true, (number + 1, next)))
   unfolding one_round next_round
   round_goes_on next spent run =
       same_value (ap (λ b. (not b, (number + 1, next))) spent)
       (runs_bind next_round run (runs_pure (not next.spent, (number + 1, next)) v after))
 
-  pub round_ends : (next : Life) → next.spent ≡ true → Runs (round plan breaths (due number) number life) w v before after (Ok next)
+  pub round_ends : (next : Life) → next.spent ≡ true
+      → Runs (round plan breaths (due number) number life) w v before after (Ok next)
       → Runs (one_round plan breaths due (number, life)) w v before after (Ok (false, (number + 1, next)))
   unfolding one_round next_round
   round_ends next spent run =

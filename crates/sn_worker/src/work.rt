@@ -14,7 +14,8 @@ const FULL_COST: u64 = 134_217_728;
 
 /// A context in whose journal a worker notes what it does itself.
 pub trait Work: Ctx {
-    /// Adds an entry of the worker's own to the journal: a round, how many actions are due, a breath, or that the journal is full.
+    /// Adds an entry of the worker's own to the journal: a round, how many actions are due, a breath, or that the journal is
+    /// full.
     ///
     /// # Errors
     /// Want of memory, and nothing changes.

@@ -1,15 +1,17 @@
 //! A worker.
-ghost use Rattle.std.specs.Prelude.{◌≡◌, ℕ, []};
+ghost use Rattle.std.specs.Prelude.{◌≡◌, ◌<◌, ℕ, [], IfOk};
 ghost use Rattle.sn_actions.specs.PlainForms.{empty_form};
 ghost use Rattle.sn_app.specs.Desk.{Tray};
 ghost use Rattle.sn_app.specs.World.{Used, world};
+ghost use Rattle.sn_scenario.specs.Plans.{plan_of, roster_of};
 ghost use Rattle.sn_worker.specs.Lives.{new_life};
-ghost use Rattle.sn_worker.specs.Plans.{CanTake, FindsAll};
+ghost use Rattle.sn_worker.specs.Plans.{CanTake, FindsAll, Serves};
 ghost use Rattle.sn_worker.specs.Workers.{CanWork, kept_of, life_of, plan_in, world_around};
 
 use sn_actions::Action;
 use sn_network::Network;
-use std::alloc::Global;
+use sn_scenario::Scenario;
+use std::alloc::{AllocError, Global};
 
 /// A worker: its network, its plan, and how far it took and applied it.
 ///
@@ -43,5 +45,26 @@ impl Worker {
             taken: 0,
             spent: false,
         }
+    }
+
+    /// A worker of a scenario, by its number below the number of workers. It took no action of its plan.
+    ///
+    /// # Errors
+    /// Want of memory.
+    pub fn of_scenario(
+        alloc: Global,
+        scenario: &Scenario,
+        number: u32,
+    ) -> Result<Worker, AllocError>
+        requires { number < scenario.now.settings.workers }
+        ensures plan { IfOk result (λ worker. plan_in worker ≡ plan_of number scenario.now) }
+        ensures life { IfOk result (λ worker. (used : Used) (t : Tray) → life_of worker used t ≡ new_life) }
+        ensures works { IfOk result (λ worker. (used : Used) (t : Tray) → Serves (roster_of number scenario.now) t
+            → CanWork worker used t) }
+        ensures kept { IfOk result (λ worker. (place : ℕ) → kept_of worker place ≡ 0) }
+        ensures queues { IfOk result (λ worker. (used : Used) (t : Tray) → world_around worker used t ≡ world t used []) }
+    {
+        let plan = scenario.plan(alloc, number)?;
+        Ok(Worker::new(alloc, plan))
     }
 }

@@ -20,7 +20,8 @@ returns-in_err-note-clause-runs g c =
 pub breathe-requires : goal.breathe-requires
 breathe-requires g c = record {
   ready =
-      (noted_works c.args.worker.now _ _ _ _ Breath c.in_ok-note.ensures.noted c.in_ok-note.ensures.used c.requires.works).breathes;
+      (noted_works c.args.worker.now _ _ _ _ Breath c.in_ok-note.ensures.noted c.in_ok-note.ensures.used
+      c.requires.works).breathes;
 }
 
 pub returns-clause-runs : goal.returns-clause-runs
@@ -38,7 +39,8 @@ returns-clause-runs g c =
 
 pub returns-clause-works : goal.returns-clause-works
 returns-clause-works g c =
-    let noted = noted_works c.args.worker.now _ _ _ _ Breath c.in_ok-note.ensures.noted c.in_ok-note.ensures.used c.requires.works in
+    let noted = noted_works c.args.worker.now _ _ _ _ Breath c.in_ok-note.ensures.noted c.in_ok-note.ensures.used
+    c.requires.works in
     on_ok c.breathe.result
     (λ breathes. breathed_works c.args.worker.now c.breathe.new.network _ _ _ _
     (run_stays _ _ _ _ _ _ c.breathe.ensures.runs) c.breathe.ensures.plain noted breathes)
