@@ -115,6 +115,20 @@ impl Counters {
         })
     }
 
+    /// What the apps have counted, by their rows.
+    pub fn apps(&self) -> &[AppCounts]
+        ensures { result.now ≡ self.now.apps }
+    {
+        &self.apps
+    }
+
+    /// What the links have counted that were freed or lost, by their rows.
+    pub fn links(&self) -> &[LinkCounts]
+        ensures { result.now ≡ self.now.links }
+    {
+        &self.links
+    }
+
     /// A count of the app at a row.
     pub fn app(&self, row: u32, counter: Counter) -> u64
         requires { row < length self.now.apps }
