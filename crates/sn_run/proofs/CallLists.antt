@@ -12,7 +12,8 @@ use Rattle.sn_outside.specs.declared.files.FileCall.{FileCall}
 use Rattle.sn_run.specs.Calls.{AreCalls, EndsUnwritten, IsOrStarved, unread_way}
 use Rattle.sn_run.specs.Courses.{Follows, SaysUnwritten, Unwritten}
 use Rattle.sn_scenario.specs.Scenarios.{ScenarioForm}
-use Rattle.sn_run.specs.Reported.{IsRun, RunReport}
+use Rattle.sn_run.specs.Replay.{IsRun}
+use Rattle.sn_run.specs.Reported.{RunReport}
 use Rattle.sn_run.specs.Scripts.{Script, prints, refuses, reads, opens, runs}
 use Rattle.sn_run.specs.Seen.{a_read, write_call}
 use Rattle.sn_run.specs.Texts.{Said, SaysOrStarves, starving, unread_said}

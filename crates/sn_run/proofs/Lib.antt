@@ -1,11 +1,11 @@
 pub mod AnswerClauses
 pub mod CallLists
-pub mod CopySteps
 pub mod Headlines
-pub mod Lines
 pub mod Numbers
 pub mod OneAnswer
 pub mod OneCommand
+pub mod Opened
+pub mod Replaying
 pub mod RunEnds
 pub mod ScriptEnds
 pub mod ScriptSteps

@@ -11,9 +11,10 @@ use Rattle.sn_scenario.specs.Scenarios.{ScenarioForm}
 use Rattle.sn_scenario.specs.declared.fault.ScenarioFault.{ScenarioFault}
 use Rattle.sn_run.specs.Answers.{HasCaptures, Ran}
 use Rattle.sn_run.specs.Commands.{IsCommandOf}
-use Rattle.sn_run.specs.Copying.{runs_now}
+use Rattle.sn_run.specs.Now.{runs_now}
 use Rattle.sn_run.specs.Courses.{EndsWritten, Follows, Stops}
-use Rattle.sn_run.specs.Reported.{IsRun, RunReport}
+use Rattle.sn_run.specs.Replay.{IsRun}
+use Rattle.sn_run.specs.Reported.{RunReport}
 use Rattle.sn_run.specs.Scripts.{prints, refuses, captures_script, command_script, form_script}
 use Rattle.sn_run.specs.Scripts.{most_captures, text_script}
 use Rattle.sn_run.specs.Seen.{Seen}
@@ -105,7 +106,7 @@ module _ (tells : Bool) (m : Contents) (new : FilesView) (report : Option RunRep
     pub form : ScenarioForm
     pub ran : command ≡ Run
     pub read : scenario_of text ≡ Ok form
-    pub now : runs_now text form ≡ true
+    pub now : runs_now form ≡ true
     pub of : Founded tells m form form.captures most_captures [] new report said
 
   by_now : (text : List ℕ) (form : ScenarioForm) (why : Why) (old : FilesView) → (tells ≡ true → old.contents ≡ m) → (b : Bool)
@@ -126,10 +127,10 @@ module _ (tells : Bool) (m : Contents) (new : FilesView) (report : Option RunRep
 
   by_command : (file text : List ℕ) (form : ScenarioForm) (command : Command) (old : FilesView)
       → (tells ≡ true → old.contents ≡ m) → scenario_of text ≡ Ok form
-      → Follows tells (form_script file text form command) old new report said
+      → Follows tells (form_script file form command) old new report said
       → Started text command ⊎ Untouched tells m new report
   unfolding Follows
-  by_command file text form Run old kept read f = elim (by_now text form (not_yet file) old kept (runs_now text form) f) [
+  by_command file text form Run old kept read f = elim (by_now text form (not_yet file) old kept (runs_now form) f) [
     | inl x ↦ inl (record { form = form; ran = refl; read = read; now = x.0; of = x.1 })
     | inr untouched ↦ inr untouched
   ]
@@ -139,7 +140,7 @@ module _ (tells : Bool) (m : Contents) (new : FilesView) (report : Option RunRep
 
   by_text : (file text : List ℕ) (command : Command) (old : FilesView) → (tells ≡ true → old.contents ≡ m)
       → (r : Result ScenarioForm ScenarioFault) → scenario_of text ≡ r
-      → Follows tells (text_script file command text r) old new report said
+      → Follows tells (text_script file command r) old new report said
       → Started text command ⊎ Untouched tells m new report
   unfolding Follows
   by_text file text command old kept (Ok form) read f = by_command file text form command old kept read f

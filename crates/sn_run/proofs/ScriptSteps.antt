@@ -1,9 +1,9 @@
 -- The steps of a command, joined to what its script says.
-use Rattle.std.proofs.Common.{◌≡◌, ℕ, ◌+◌, ◌-◌, ◌<◌, ◌≤◌, Bool, true, false, inl, inr, List, [], ◌∷◌, ◌++◌, Option, None, length}
+use Rattle.std.proofs.Common.{Err, Ok, ◌≡◌, ℕ, ◌+◌, ◌-◌, ◌<◌, ◌≤◌, Bool, true, false, inl, inr, List, [], ◌∷◌, ◌++◌, Option, None, length}
 use Rattle.std.proofs.Common.{drop, refl, sym, ap, ◌∙◌, subst, cond}
 use Rattle.std.proofs.lemmas.Bool.{le-ltb, lt-ltb}
 use Rattle.std.proofs.lemmas.List.{drop_all, drop_more, length-append}
-use Rattle.std.specs.Prelude.{get_or, min}
+use Rattle.std.specs.Prelude.{IfErr, Result, get_or, min}
 use Rattle.sn_outside.specs.Views.{FilesView}
 use Rattle.sn_outside.specs.declared.fault.FileFault.{FileFault}
 use Rattle.sn_pcap.specs.declared.fault.PcapFault.{PcapFault}
@@ -12,9 +12,10 @@ use Rattle.sn_scenario.specs.Plans.{plan_of}
 use Rattle.sn_scenario.specs.ScenarioText.{scenario_of}
 use Rattle.sn_scenario.specs.Scenarios.{ScenarioForm}
 use Rattle.sn_run.specs.ActionTexts.{actions_text}
-use Rattle.sn_run.specs.Copying.{runs_now}
+use Rattle.sn_run.specs.Now.{runs_now}
 use Rattle.sn_run.specs.Courses.{EndsWritten, Follows}
-use Rattle.sn_run.specs.Reported.{RunReport, IsRun, WrittenFile}
+use Rattle.sn_run.specs.Replay.{IsRun}
+use Rattle.sn_run.specs.Reported.{RunReport, WrittenFile}
 use Rattle.sn_run.specs.Scripts.{Script, prints, refuses, reads, opens, runs, actions_script, captures_script, command_script}
 use Rattle.sn_run.specs.Scripts.{form_script, run_script, text_script, most_capture, most_captures, most_scenario}
 use Rattle.sn_run.specs.Seen.{ReadGave, ReadRefused}
@@ -52,23 +53,23 @@ module _ (tells : Bool) (old new : FilesView) where
     new,
     gave,
     elim refuses_it [
-      | inl r ↦ subst (λ q. Follows tells (text_script file command text q) new new None said) (sym r.1)
+      | inl r ↦ subst (λ q. Follows tells (text_script file command q) new new None said) (sym r.1)
           (record { same = refl; none = refl; says = r.2 })
-      | inr lacks ↦ starves (text_script file command text (scenario_of text)) tells new None said refl lacks
+      | inr lacks ↦ starves (text_script file command (scenario_of text)) tells new None said refl lacks
     ],
   )
 
   -- a text that spells one is gone on with
-  pub goes_on : (file text : List ℕ) (form : ScenarioForm) (command : Command) (last : FilesView) (report : Option RunReport)
-      (said : Said) → GaveText tells old new file text form
-      → Follows tells (form_script file text form command) new last report said
+  pub goes_on : (file : List ℕ) (form : ScenarioForm) (command : Command) (last : FilesView) (report : Option RunReport)
+      (said : Said) → GaveText tells old new file form
+      → Follows tells (form_script file form command) new last report said
       → Follows tells (command_script file command) old last report said
   unfolding Follows
-  goes_on file text form command last report said gave more = inl (
-    text,
+  goes_on file form command last report said gave more = inl (
+    gave.text,
     new,
     gave.gave,
-    subst (λ q. Follows tells (text_script file command text q) new last report said) (sym gave.is) more,
+    subst (λ q. Follows tells (text_script file command q) new last report said) (sym gave.is) more,
   )
 
   -- bytes that are no capture end a run
@@ -186,13 +187,13 @@ lacks_worker worker form lacks =
     (le-ltb worker form.settings.workers lacks)
 
 -- a scenario that runs so far, and one that doesn't
-pub now_runs : (file text : List ℕ) (form : ScenarioForm) → runs_now text form ≡ true
-    → run_script file text form ≡ captures_script form form.captures most_captures []
-now_runs file text form now = ap (λ b. cond b (captures_script form form.captures most_captures []) (refuses (not_yet file))) now
+pub now_runs : (file : List ℕ) (form : ScenarioForm) → runs_now form ≡ true
+    → run_script file form ≡ captures_script form form.captures most_captures []
+now_runs file form now = ap (λ b. cond b (captures_script form form.captures most_captures []) (refuses (not_yet file))) now
 
-pub not_now : (file text : List ℕ) (form : ScenarioForm) → runs_now text form ≡ false
-    → run_script file text form ≡ refuses (not_yet file)
-not_now file text form later =
+pub not_now : (file : List ℕ) (form : ScenarioForm) → runs_now form ≡ false
+    → run_script file form ≡ refuses (not_yet file)
+not_now file form later =
     ap (λ b. cond b (captures_script form form.captures most_captures []) (refuses (not_yet file))) later
 
 -- a text is printed
@@ -226,3 +227,8 @@ read_on tells old between new form names read captures report said names_are sam
 -- one element more
 pub length_more : {A : Type 0} (xs : List A) (x : A) (n : ℕ) → length xs ≡ n → length (xs ++ x ∷ []) ≡ n + 1
 length_more xs x n is = length-append xs (x ∷ []) ∙ ap (λ k. k + 1) is
+
+-- what follows of each fault follows of the one that there is
+pub by_err : {A E : Type 0} (r : Result A E) (P Q : E → Type 0) → ((e : E) → P e → Q e) → IfErr r P → IfErr r Q
+by_err (Ok x) P Q f h = tt
+by_err (Err e) P Q f h = f e h

@@ -10,11 +10,12 @@ use Rattle.sn_scenario.specs.ScenarioText.{scenario_of}
 use Rattle.sn_scenario.specs.Scenarios.{ScenarioForm}
 use Rattle.sn_run.specs.Captures.{IsCapture}
 use Rattle.sn_run.specs.Commands.{IsCommandOf}
-use Rattle.sn_run.specs.Copying.{runs_now}
+use Rattle.sn_run.specs.Now.{runs_now}
 use Rattle.sn_run.specs.Courses.{Course}
 use Rattle.sn_run.specs.Expectations.{Expected, IsExpected, IsOutside}
 use Rattle.sn_run.specs.Printed.{Sunk, TookAll, TookFront}
-use Rattle.sn_run.specs.Reported.{RunReport, WrittenFile, IsRun, with_files}
+use Rattle.sn_run.specs.Replay.{IsRun}
+use Rattle.sn_run.specs.Reported.{RunReport, WrittenFile, with_files}
 use Rattle.sn_run.specs.Scripts.{most_capture, most_captures, most_scenario}
 use Rattle.sn_run.specs.Seen.{Seen, Found}
 use Rattle.sn_run.specs.Texts.{Said, way_text}
@@ -38,7 +39,7 @@ ended_by ended = way_of (answer_of ended)
 pub record HasScenario (w : Seen) (file text : List ℕ) (form : ScenarioForm) : Type 0 where
   pub found : Found w.tells w.old.contents file most_scenario text
   pub is : scenario_of text ≡ Ok form
-  pub now : runs_now text form ≡ true
+  pub now : runs_now form ≡ true
 
 -- the files of these names held captures of these bytes, of which each has room behind the ones before it
 abbrev pub HasCaptures : Bool → Contents → ℕ → List (List ℕ) → List (List ℕ) → Type 0

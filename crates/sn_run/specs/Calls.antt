@@ -9,7 +9,8 @@ use Rattle.sn_pcap.specs.declared.fault.PcapFault.{PcapFault}
 use Rattle.sn_pcap.specs.Faults.{HasFault}
 use Rattle.sn_run.specs.Captures.{IsCapture}
 use Rattle.sn_run.specs.Commands.{IsCommand, IsCommandOf}
-use Rattle.sn_run.specs.Reported.{RunReport, WrittenFile, IsRun}
+use Rattle.sn_run.specs.Replay.{IsRun}
+use Rattle.sn_run.specs.Reported.{RunReport, WrittenFile}
 use Rattle.sn_run.specs.Scripts.{Script, prints, refuses, reads, opens, runs, command_script}
 use Rattle.sn_run.specs.Seen.{Seen, a_read, write_call}
 use Rattle.sn_run.specs.Ways.{Way, no_words, unread, refused, finished, done, unwritten, starved, no_capture}
@@ -20,6 +21,19 @@ use Rattle.sn_run.specs.declared.outcome.Outcome.{Outcome}
 -- the way is this one, or memory lacked
 abbrev pub IsOrStarved : Way → Way → Type 0
 IsOrStarved way wanted = (way ≡ wanted) ⊎ (way ≡ starved)
+
+-- a run came to its end
+abbrev pub IsFinished : Way → Type 0
+IsFinished (finished outcome) = Unit {0}
+IsFinished way = ⊥
+
+-- The way is the same as this one. The ends of two runs count as the same, since each run ends as its own journal says.
+abbrev pub IsSameEnd : Way → Way → Type 0
+IsSameEnd way (finished outcome) = IsFinished way
+IsSameEnd way wanted = way ≡ wanted
+
+abbrev pub IsSameOrStarved : Way → Way → Type 0
+IsSameOrStarved way wanted = IsSameEnd way wanted ⊎ (way ≡ starved)
 
 -- the way in which a refused call ends a command
 abbrev pub unread_way : List ℕ → FileFault → Way

@@ -7,7 +7,8 @@ use Rattle.sn_pcap.specs.declared.fault.PcapFault.{PcapFault}
 use Rattle.sn_pcap.specs.Faults.{HasFault}
 use Rattle.sn_run.specs.Captures.{IsCapture}
 use Rattle.sn_run.specs.Commands.{IsCommand, IsCommandOf}
-use Rattle.sn_run.specs.Reported.{RunReport, IsRun}
+use Rattle.sn_run.specs.Replay.{IsRun}
+use Rattle.sn_run.specs.Reported.{RunReport}
 use Rattle.sn_run.specs.Scripts.{Script, prints, refuses, reads, opens, runs, command_script}
 use Rattle.sn_run.specs.Seen.{Holds, IsOver}
 use Rattle.sn_run.specs.Texts.{Said, said_of}

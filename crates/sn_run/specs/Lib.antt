@@ -3,11 +3,13 @@ pub mod Answers
 pub mod Calls
 pub mod Captures
 pub mod Commands
-pub mod Copying
 pub mod Courses
 pub mod Exit
 pub mod Expectations
+pub mod Now
+pub mod OnBench
 pub mod Printed
+pub mod Replay
 pub mod Reported
 pub mod Scripts
 pub mod Seen

@@ -5,7 +5,7 @@ use Rattle.sn_scenario.specs.ScenarioText.{scenario_of}
 use Rattle.sn_scenario.specs.Scenarios.{ScenarioForm}
 use Rattle.sn_scenario.specs.declared.fault.ScenarioFault.{ScenarioFault}
 use Rattle.sn_run.specs.ActionTexts.{actions_text}
-use Rattle.sn_run.specs.Copying.{runs_now}
+use Rattle.sn_run.specs.Now.{runs_now}
 use Rattle.sn_run.specs.Texts.{way_text}
 use Rattle.sn_run.specs.Ways.{Why, done, no_scenario, no_worker, not_yet}
 use Rattle.sn_run.specs.declared.command.Command.{Command}
@@ -40,25 +40,24 @@ captures_script form (name ∷ names) room before =
     (λ bytes. opens name bytes (captures_script form names (room - length bytes) (before ++ bytes ∷ [])))
 
 -- a scenario that doesn't run yet is refused
-abbrev pub run_script : List ℕ → List ℕ → ScenarioForm → Script
-run_script file text form =
-    cond (runs_now text form) (captures_script form form.captures most_captures []) (refuses (not_yet file))
+abbrev pub run_script : List ℕ → ScenarioForm → Script
+run_script file form = cond (runs_now form) (captures_script form form.captures most_captures []) (refuses (not_yet file))
 
 -- and so is a worker that the scenario doesn't have
 abbrev pub actions_script : ℕ → ScenarioForm → Script
 actions_script worker form =
     cond (nat_lt worker form.settings.workers) (prints (actions_text 1 (plan_of worker form))) (refuses (no_worker worker))
 
-abbrev pub form_script : List ℕ → List ℕ → ScenarioForm → Command → Script
-form_script file text form Run = run_script file text form
-form_script file text form Check = prints (way_text done)
-form_script file text form (Actions worker) = actions_script worker form
+abbrev pub form_script : List ℕ → ScenarioForm → Command → Script
+form_script file form Run = run_script file form
+form_script file form Check = prints (way_text done)
+form_script file form (Actions worker) = actions_script worker form
 
 -- a text is taken as a scenario
-abbrev pub text_script : List ℕ → Command → List ℕ → Result ScenarioForm ScenarioFault → Script
-text_script file command text (Ok form) = form_script file text form command
-text_script file command text (Err fault) = refuses (no_scenario fault)
+abbrev pub text_script : List ℕ → Command → Result ScenarioForm ScenarioFault → Script
+text_script file command (Ok form) = form_script file form command
+text_script file command (Err fault) = refuses (no_scenario fault)
 
 -- a command over a file
 abbrev pub command_script : List ℕ → Command → Script
-command_script file command = reads file most_scenario (λ text. text_script file command text (scenario_of text))
+command_script file command = reads file most_scenario (λ text. text_script file command (scenario_of text))

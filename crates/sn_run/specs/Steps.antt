@@ -23,8 +23,9 @@ RefusesText text said =
     ((fault : ScenarioFault) × (scenario_of text ≡ Err fault) × SaysOrStarves said (said_of (refused (no_scenario fault))))
     ⊎ (said ≡ starving)
 
--- one read gave this text of this scenario
-pub record GaveText (tells : Bool) (old new : FilesView) (file text : List ℕ) (form : ScenarioForm) : Type 0 where
+-- one read gave a text of this scenario
+pub record GaveText (tells : Bool) (old new : FilesView) (file : List ℕ) (form : ScenarioForm) : Type 0 where
+  pub text : List ℕ
   pub gave : ReadGave tells old new file most_scenario text
   pub is : scenario_of text ≡ Ok form
 

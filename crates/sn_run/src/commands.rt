@@ -1,18 +1,18 @@
 //! What each command does with its file.
 ghost use Rattle.sn_run.specs.ActionTexts.{actions_text};
-ghost use Rattle.sn_run.specs.Copying.{RunsSoFar};
 ghost use Rattle.sn_run.specs.Courses.{Follows};
+ghost use Rattle.sn_run.specs.Now.{runs_now};
 ghost use Rattle.sn_run.specs.Scripts.{captures_script, command_script, most_captures};
 ghost use Rattle.sn_run.specs.Texts.{saying};
 ghost use Rattle.sn_run.specs.declared.command.Command.TheVariants.{Run, Check, Actions};
 ghost use Rattle.sn_scenario.specs.Plans.{plan_of};
-ghost use Rattle.std.specs.Prelude.{List, ℕ, [], IfOk, ◌<◌, ◌≡◌};
+ghost use Rattle.std.specs.Prelude.{List, ℕ, [], IfOk, true, ◌<◌, ◌≡◌};
 
 use crate::Status;
 use crate::action_text::push_actions;
 use crate::answer::{Answer, refusal_of, refused, starved};
-use crate::copying::runs_now;
 use crate::journal_text::journal_files;
+use crate::now::runs_now;
 use crate::reading::{read_captures, read_text};
 use crate::texts::status_text;
 use crate::values::run_scenario;
@@ -36,7 +36,7 @@ fn done(text: Vec<u8>) -> Answer
 
 /// Reads the captures of a scenario, runs it, and writes the files that the run leaves and the journal's.
 fn run_read<F: Files>(alloc: Global, scenario: &Scenario, files: &mut F) -> Answer
-    requires { RunsSoFar scenario.now }
+    requires { runs_now scenario.now ≡ true }
     ensures { Follows
         F.tells
         (captures_script scenario.now scenario.now.captures most_captures [])
@@ -68,14 +68,11 @@ pub(crate) fn run_file<F: Files>(alloc: Global, file: FileName, files: &mut F) -
         result.report
         (saying result.status result.text.items) }
 {
-    let (text, scenario) = match read_text(alloc, &file, files) {
-        Ok(read) => read,
+    let scenario = match read_text(alloc, &file, files) {
+        Ok(scenario) => scenario,
         Err(refusal) => return refused(refusal),
     };
-    let Ok(runs) = runs_now(alloc, &text, &scenario) else {
-        return starved(alloc);
-    };
-    if !runs {
+    if !runs_now(&scenario) {
         return refused(refusal_of(alloc, Status::NotYet(file)));
     }
     run_read(alloc, &scenario, files)
@@ -127,8 +124,8 @@ pub(crate) fn actions_file<F: Files>(
         result.report
         (saying result.status result.text.items) }
 {
-    let (_, scenario) = match read_text(alloc, &file, files) {
-        Ok(read) => read,
+    let scenario = match read_text(alloc, &file, files) {
+        Ok(scenario) => scenario,
         Err(refusal) => return refused(refusal),
     };
     if worker >= scenario.settings().workers {

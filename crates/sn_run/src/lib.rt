@@ -3,7 +3,8 @@
 //! * `command`: the words of a command
 //! * `reading`: the files that a command reads
 //! * `commands`: what each command does with its file
-//! * `copying`, `copy`, `values`: which scenarios run so far, and the run of one over captures
+//! * `now`: which scenarios run so far
+//! * `values`, `opening`, `reporting`: the run of one over captures, its bench, and what it reports
 //! * `writing`, `journal_text`: the files that a run writes, and the journal's text
 //! * `status`, `outcome`, `report`: how a command and a run end, and what a run leaves
 //! * `answer`, `texts`, `action_text`, `printing`: answers, their texts, and the sink that takes them
@@ -14,20 +15,21 @@ mod action_text;
 mod answer;
 mod command;
 mod commands;
-mod copy;
-mod copying;
 mod journal_text;
+mod now;
+mod opening;
 mod outcome;
 mod printing;
 mod reading;
 mod report;
+mod reporting;
 mod status;
 mod texts;
 mod top;
 mod values;
 mod writing;
 
-pub use copying::runs_now;
+pub use now::runs_now;
 pub use outcome::Outcome;
 pub use report::{OutFile, Report};
 pub use status::{Ended, Status};

@@ -10,17 +10,20 @@ use crate::Status;
 pub enum Outcome {
     /// Nothing was left to do.
     Drained,
-    /// The rounds were used up, and so much was left: records that were not read.
+    /// The rounds were used up, and so much was left: actions that weren't applied, records that
+    /// weren't read, and packets in links.
     RoundsUsed(u64),
     /// The journal of this worker is full, and no worker before it has a full one.
     JournalLimit(u32),
 }
 
-/// How a run ends of which so much is left.
-pub(crate) fn outcome_of(left: u64) -> Outcome
-    ensures { result ≡ outcome left }
+/// How a run of one worker ends, whose journal is full or isn't, and of which so much is left.
+pub(crate) fn outcome_of(spent: bool, left: u64) -> Outcome
+    ensures { result ≡ outcome spent left }
 {
-    if left == 0 {
+    if spent {
+        Outcome::JournalLimit(0)
+    } else if left == 0 {
         Outcome::Drained
     } else {
         Outcome::RoundsUsed(left)

@@ -64,7 +64,7 @@ fn parse_text(alloc: Global, text: &[u8]) -> Result<Scenario, Refusal>
     }
 }
 
-/// The text of a scenario that a file holds, and the scenario.
+/// The scenario that a file holds.
 ///
 /// # Errors
 /// The answer that ends the command: the file was not read, is too long, or holds no scenario, or
@@ -73,8 +73,8 @@ pub(crate) fn read_text<F: Files>(
     alloc: Global,
     file: &FileName,
     files: &mut F,
-) -> Result<(Vec<u8>, Scenario), Refusal>
-    ensures ok { IfOk result (λ read. GaveText F.tells (F.state files.old) (F.state files.new) file.now read.0.items read.1) }
+) -> Result<Scenario, Refusal>
+    ensures ok { IfOk result (λ scenario. GaveText F.tells (F.state files.old) (F.state files.new) file.now scenario) }
     ensures err { IfErr result
         (λ r. TextEnds F.tells (F.state files.old) (F.state files.new) file.now (saying r.status r.text.items)) }
 {
@@ -82,10 +82,7 @@ pub(crate) fn read_text<F: Files>(
         Ok(text) => text,
         Err(fault) => return Err(unread(alloc, file, fault)),
     };
-    match parse_text(alloc, &text) {
-        Ok(scenario) => Ok((text, scenario)),
-        Err(refusal) => Err(refusal),
-    }
+    parse_text(alloc, &text)
 }
 
 /// The capture that a file holds, in at most `limit` bytes, and how many these are.

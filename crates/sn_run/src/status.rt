@@ -24,7 +24,7 @@ pub enum Status {
     NoWorker(u32),
     /// The file holds no scenario, and this is its first fault.
     BadScenario(ScenarioFault),
-    /// The scenario isn't of the one form that runs so far.
+    /// The scenario doesn't run so far: it has more than one worker, an interlink or a stop.
     NotYet(FileName),
     /// The file is no capture, and this is its first fault.
     BadPcap(FileName, PcapFault),

@@ -130,6 +130,18 @@ fn call<R: Threads + Sync>(
     snabb_main(rt, alloc, words, files, out, &NoGate)
 }
 
+/// Runs the scenario that the file `s` of these files holds, and answers how that ended, and the sink that took what was printed.
+pub fn run<R: Threads + Sync + AllocGlobal>(
+    rt: &R,
+    files: &mut MemFiles,
+) -> Result<(Ended, MemSink), Fail> {
+    let alloc = rt.alloc();
+    let words = words_of(alloc, &["run", "s"])?;
+    let mut out = sink_of(alloc, &[])?;
+    let ended = call(rt, alloc, &words, files, &mut out);
+    Ok((ended, out))
+}
+
 /// Compares how a command ended with what is expected.
 fn expect_ended<R: Abort>(rt: &R, ended: &Ended, want: &Want) {
     assert_eq!(rt; ended.status.number(), want.number);

@@ -186,16 +186,13 @@ fn run_of(alloc: Global, text: &[u8], bytes: Vec<u8>) -> Option<(Outcome, u64, V
     let Ok(read) = Scenario::parse(alloc, text) else {
         return None;
     };
-    let Ok(runs) = runs_now(alloc, text, &read) else {
-        return None;
-    };
     let Ok(opened) = Capture::open(bytes) else {
         return None;
     };
     let Ok(captures) = vec![in alloc; opened] else {
         return None;
     };
-    if !runs || captures.len() != read.captures().len() {
+    if !runs_now(&read) || captures.len() != read.captures().len() {
         return None;
     }
     let Ok((outcome, report)) = run_scenario(alloc, &read, captures) else {

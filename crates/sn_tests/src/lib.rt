@@ -7,7 +7,7 @@
 //! * `machine`: the machine of packets
 //! * `configurations`, `actions`, `scenarios`: configurations, the actions between two, scenarios
 //! * `commands`: a command over files in memory, and what is expected of it
-//! * `copies`, `refusals`, `plans`: commands that run, that are refused, and that read a scenario alone
+//! * `copies`, `runs`, `refusals`, `plans`: commands that run, that are refused, and that read a scenario alone
 #![tactic(auto)]
 
 #[cfg(test)]
@@ -32,5 +32,7 @@ mod outsides;
 mod plans;
 #[cfg(test)]
 mod refusals;
+#[cfg(test)]
+mod runs;
 #[cfg(test)]
 mod scenarios;
