@@ -7,7 +7,6 @@ use Rattle.sn_app.specs.World.{IsSound, Used, world}
 use Rattle.sn_kind.specs.Kinds.{kind_stays}
 use Rattle.sn_link.specs.Link.{Line}
 use Rattle.sn_network.specs.Networks.{CanBreathe, plain_in, shown}
-
 use Rattle.sn_network.specs.Standing.{AreWired, Breathes, HasPlainLinks, Stands}
 use Rattle.sn_network.specs.declared.network.Network.{Network}
 use Rattle.sn_network.specs.declared.place.Place.{Place}
