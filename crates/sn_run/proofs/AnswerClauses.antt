@@ -9,7 +9,7 @@ use Rattle.sn_pcap.specs.Grammar.{PcapText}
 use Rattle.sn_outside.specs.declared.fault.FileFault.TheVariants.{Failed, TooLong as Long, OutOfMemory as NoMemory}
 use Rattle.sn_run.specs.Answers.{Answered, FaultsCounted, Headline, IsCaused, IsDue, IsTextOf, Leaves, ended_by}
 use Rattle.sn_run.specs.Answers.{has_report}
-use Rattle.sn_run.specs.Calls.{CallsMade, IsFinished, IsSameEnd, IsSameOrStarved}
+use Rattle.sn_run.specs.Calls.{CallsMade, IsOrStarved}
 use Rattle.sn_run.specs.Commands.{IsCommand}
 use Rattle.sn_run.specs.Courses.{Course}
 use Rattle.sn_run.specs.Expectations.{Expected, IsOutside, Leads}
@@ -28,35 +28,8 @@ use Rattle.sn_run.proofs.CallLists.{makes_calls}
 use Rattle.sn_run.proofs.ScriptEnds.{HasOwnText, counts, of_script, own_text, reports}
 use Rattle.sn_run.proofs.Headlines.{headline, ran_leaves, untouched_leaves}
 use Rattle.sn_run.proofs.RunEnds.{RanTo, Untouched, run_ends}
-use Rattle.sn_run.proofs.OneAnswer.{AreAlike, led, one_lead}
+use Rattle.sn_run.proofs.OneAnswer.{led, one_lead}
 use Rattle.sn_run.proofs.OneCommand.{one_asked}
-
--- a way is the same as itself, and as another end of a run where it is one
-own_end : (way : Way) → IsSameEnd way way
-own_end no_words = refl
-own_end (unread name fault) = refl
-own_end (refused why) = refl
-own_end (finished outcome) = tt
-own_end done = refl
-own_end (unwritten name) = refl
-own_end starved = refl
-own_end unprinted = refl
-
-other_end : (way wanted : Way) → IsFinished way → IsFinished wanted → IsSameEnd way wanted
-other_end way no_words f g = absurd g
-other_end way (unread name fault) f g = absurd g
-other_end way (refused why) f g = absurd g
-other_end way (finished outcome) f g = f
-other_end way done f g = absurd g
-other_end way (unwritten name) f g = absurd g
-other_end way starved f g = absurd g
-other_end way unprinted f g = absurd g
-
-same_end : (said wanted : Said) → AreAlike said wanted → IsSameEnd said.way wanted.way
-same_end said wanted either = elim either [
-  | inl same ↦ subst (λ s. IsSameEnd said.way s.way) same (own_end said.way)
-  | inr ends ↦ other_end said.way wanted.way ends.0 ends.1
-]
 
 module _ (w : Seen) (words : List (List ℕ)) where
   pub reports_of : (report : Option RunReport) (said : Said) → Course w words report said → is_some report ≡ has_report said.way
@@ -113,9 +86,9 @@ module _ (w : Seen) (words : List (List ℕ)) where
 
   module _ (one_fault : (bytes : List ℕ) (a b : PcapFault) → HasFault bytes a → HasFault bytes b → a ≡ b) (no_fault :
       (bytes : List ℕ) (records : List (List ℕ)) (fault : PcapFault) → PcapText bytes records → HasFault bytes fault → ⊥) where
-    -- words and contents lead to one answer, or to the ends of runs
-    one_expected : (a b : Said) → Expected w.old.contents words a → Expected w.old.contents words b → AreAlike a b
-    one_expected a b (inl x) (inl y) = inl (x.1 ∙ sym y.1)
+    -- words and contents lead to one answer
+    one_expected : (a b : Said) → Expected w.old.contents words a → Expected w.old.contents words b → a ≡ b
+    one_expected a b (inl x) (inl y) = x.1 ∙ sym y.1
     one_expected a b (inl x) (inr y) = absurd (x.0 (y.file, y.command, y.asked))
     one_expected a b (inr x) (inl y) = absurd (y.0 (x.file, x.command, x.asked))
     one_expected a b (inr x) (inr y) =
@@ -149,20 +122,17 @@ module _ (w : Seen) (words : List (List ℕ)) where
     lacking unprinted o f calm = absurd o
 
     pub expected_of : (report : Option RunReport) (said wanted : Said) → Course w words report said → IsDue w words wanted
-        → IsSameOrStarved said.way wanted.way
+        → IsOrStarved said.way wanted.way
     expected_of report said wanted course due = elim (expected_by report said course due.told) [
       | inl o ↦ inr (lacking said.way o (counts_of report said course) due.calm)
-      | inr e ↦ inl (same_end said wanted (one_expected said wanted e due.expected))
+      | inr e ↦ inl (ap (λ s. s.way) (one_expected said wanted e due.expected))
     ]
 
     pub shown_of : (report : Option RunReport) (said wanted : Said) → Course w words report said → w.tells ≡ true
         → Expected w.old.contents words wanted → said.way ≡ done → said.text ≡ wanted.text
     shown_of report said wanted course t expected is = elim (expected_by report said course t) [
       | inl o ↦ absurd (subst IsOutside is o)
-      | inr e ↦ elim (one_expected said wanted e expected) [
-        | inl same ↦ ap (λ s. s.text) same
-        | inr ends ↦ absurd (subst IsFinished is ends.0)
-      ]
+      | inr e ↦ ap (λ s. s.text) (one_expected said wanted e expected)
     ]
 
   -- the words are no command just where the answer says so

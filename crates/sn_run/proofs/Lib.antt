@@ -4,10 +4,15 @@ pub mod Headlines
 pub mod Numbers
 pub mod OneAnswer
 pub mod OneCommand
+pub mod OneRun
 pub mod Opened
 pub mod Replaying
 pub mod RunEnds
 pub mod ScriptEnds
 pub mod ScriptSteps
+pub mod Settled
+pub mod SettledApps
+pub mod SettledRows
+pub mod SettledTurns
 pub mod TextPieces
 pub mod WrittenFiles

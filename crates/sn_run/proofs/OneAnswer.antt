@@ -9,14 +9,14 @@ use Rattle.sn_outside.specs.declared.fault.FileFault.TheVariants.{Failed, TooLon
 use Rattle.sn_pcap.specs.declared.fault.PcapFault.{PcapFault}
 use Rattle.sn_pcap.specs.Faults.{HasFault}
 use Rattle.sn_pcap.specs.Grammar.{PcapText}
-use Rattle.sn_run.specs.Calls.{IsFinished}
 use Rattle.sn_run.specs.Courses.{Follows, SaysUnwritten}
 use Rattle.sn_run.specs.Expectations.{IsOutside, Leads}
 use Rattle.sn_run.specs.Reported.{RunReport}
 use Rattle.sn_run.specs.Scripts.{Script, prints, refuses, reads, opens, runs}
 use Rattle.sn_run.specs.Seen.{Holds, IsOver, ReadRefused}
 use Rattle.sn_run.specs.Texts.{Said, SaysOrStarves, said_of, starving, unread_said}
-use Rattle.sn_run.specs.Ways.{refused, no_capture}
+use Rattle.sn_run.specs.Ways.{finished, refused, no_capture}
+use Rattle.sn_run.proofs.OneRun.{one_run}
 
 -- the answer tells of a fault of files or of want of memory, or the contents lead to it
 abbrev pub Led : Script → Contents → Said → Type 0
@@ -78,26 +78,22 @@ never_over m name limit bytes x y =
     subst (λ o. IsSomeAnd o (λ b. limit < Rattle.std.proofs.Common.length b)) x.held y.over in
     omega (arith, over, x.short)
 
--- two answers are the same, or both are the ends of runs
-abbrev pub AreAlike : Said → Said → Type 0
-AreAlike a b = (a ≡ b) ⊎ (IsFinished a.way × IsFinished b.way)
-
 module _ (one_fault : (bytes : List ℕ) (a b : PcapFault) → HasFault bytes a → HasFault bytes b → a ≡ b)
     (no_fault : (bytes : List ℕ) (records : List (List ℕ)) (fault : PcapFault) → PcapText bytes records → HasFault bytes fault
     → ⊥) where
-  pub one_lead : (s : Script) (m : Contents) (a b : Said) → Leads s m a → Leads s m b → AreAlike a b
+  pub one_lead : (s : Script) (m : Contents) (a b : Said) → Leads s m a → Leads s m b → a ≡ b
   unfolding Leads
-  one_lead (prints text) m a b x y = inl (x ∙ sym y)
-  one_lead (refuses why) m a b x y = inl (x ∙ sym y)
+  one_lead (prints text) m a b x y = x ∙ sym y
+  one_lead (refuses why) m a b x y = x ∙ sym y
   one_lead (reads name limit next) m a b (inl x) (inl y) =
       one_lead (next y.0) m a b (subst (λ t. Leads (next t) m a) (one_text m name limit x.0 y.0 x.1 y.1) x.2) y.2
   one_lead (reads name limit next) m a b (inl x) (inr y) = absurd (never_over m name limit x.0 x.1 y.0)
   one_lead (reads name limit next) m a b (inr x) (inl y) = absurd (never_over m name limit y.0 y.1 x.0)
-  one_lead (reads name limit next) m a b (inr x) (inr y) = inl (x.1 ∙ sym y.1)
+  one_lead (reads name limit next) m a b (inr x) (inr y) = x.1 ∙ sym y.1
   one_lead (opens name bytes next) m a b (inl x) (inl y) = one_lead next m a b x.1 y.1
   one_lead (opens name bytes next) m a b (inl x) (inr y) = absurd (no_fault bytes x.0.records y.0 x.0.text y.1)
   one_lead (opens name bytes next) m a b (inr x) (inl y) = absurd (no_fault bytes y.0.records x.0 y.0.text x.1)
   one_lead (opens name bytes next) m a b (inr x) (inr y) =
-      inl (x.2 ∙ ap (λ f. said_of (refused (no_capture name f))) (one_fault bytes x.0 y.0 x.1 y.1) ∙ sym y.2)
+      x.2 ∙ ap (λ f. said_of (refused (no_capture name f))) (one_fault bytes x.0 y.0 x.1 y.1) ∙ sym y.2
   one_lead (runs form captures) m a b x y =
-      inr (subst (λ s. IsFinished s.way) (sym x.3) tt, subst (λ s. IsFinished s.way) (sym y.3) tt)
+      x.3 ∙ ap (λ o. said_of (finished o)) (one_run form captures x.0 y.0 x.1 y.1 x.2 y.2).0 ∙ sym y.3

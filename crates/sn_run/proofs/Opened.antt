@@ -19,7 +19,8 @@ use Rattle.sn_scenario.specs.Scenarios.{ScenarioForm}
 use Rattle.sn_run.specs.Replay.{opening_tray}
 
 -- a tray of these parts
-abbrev made : List Entry → Bool → RosterRows → List (List ℕ) → List PacketState → (ℕ → Side → End) → List AppCounts → List LinkCounts
+abbrev made : List Entry → Bool → RosterRows → List (List ℕ) → List PacketState → (ℕ → Side → End) → List AppCounts
+    → List LinkCounts
     → List (Option (List ℕ)) → Tray
 made past bare roster captures frees ends apps links files = record {
   log = record { past = past; constants = constants_of bare roster captures };
@@ -57,7 +58,8 @@ module _ (bench : BenchState) (captures : List (List ℕ)) (names : RosterRows) 
       ∙ ap (λ x. made [] true names captures (packets_below pool) x bench.counters.apps bench.counters.links bench.files)
       (fun_ext (λ lane. fun_ext (ends lane)))
       ∙ ap (λ x. made [] true names captures (packets_below pool) all_out x bench.counters.links bench.files) apps
-      ∙ ap (λ x. made [] true names captures (packets_below pool) all_out (replicate (length names.apps) no_app_counts) x bench.files)
+      ∙ ap (λ x. made [] true names captures (packets_below pool) all_out
+      (replicate (length names.apps) no_app_counts) x bench.files)
       links
       ∙ ap (made [] true names captures (packets_below pool) all_out (replicate (length names.apps) no_app_counts)
       (replicate (length names.links) no_counts)) files

@@ -22,19 +22,6 @@ use Rattle.sn_run.specs.declared.outcome.Outcome.{Outcome}
 abbrev pub IsOrStarved : Way → Way → Type 0
 IsOrStarved way wanted = (way ≡ wanted) ⊎ (way ≡ starved)
 
--- a run came to its end
-abbrev pub IsFinished : Way → Type 0
-IsFinished (finished outcome) = Unit {0}
-IsFinished way = ⊥
-
--- The way is the same as this one. The ends of two runs count as the same, since each run ends as its own journal says.
-abbrev pub IsSameEnd : Way → Way → Type 0
-IsSameEnd way (finished outcome) = IsFinished way
-IsSameEnd way wanted = way ≡ wanted
-
-abbrev pub IsSameOrStarved : Way → Way → Type 0
-IsSameOrStarved way wanted = IsSameEnd way wanted ⊎ (way ≡ starved)
-
 -- the way in which a refused call ends a command
 abbrev pub unread_way : List ℕ → FileFault → Way
 unread_way name Failed = unread name Failed

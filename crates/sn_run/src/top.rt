@@ -2,7 +2,7 @@
 ghost use Rattle.sn_outside.specs.Counts.{FaultCounted};
 ghost use Rattle.sn_run.specs.Answers.{answer_of, ended_by, has_report, Answered, FaultsCounted, Headline, IsCaused, IsDue};
 ghost use Rattle.sn_run.specs.Answers.{IsTextOf, Leaves};
-ghost use Rattle.sn_run.specs.Calls.{CallsMade, IsSameOrStarved};
+ghost use Rattle.sn_run.specs.Calls.{CallsMade, IsOrStarved};
 ghost use Rattle.sn_run.specs.Commands.{IsCommand, texts};
 ghost use Rattle.sn_run.specs.Courses.{Course, Follows};
 ghost use Rattle.sn_run.specs.Expectations.{Expected};
@@ -160,7 +160,7 @@ pub fn snabb_main<R: Threads + Sync, F: Files, O: Sink, G: Gate>(
     ensures caused { IsCaused (seen F.tells (F.state files.old) (F.state files.new)) (texts words.now) (ended_by result) }
     ensures expected { (said : Said)
         → IsDue (seen F.tells (F.state files.old) (F.state files.new)) (texts words.now) said
-        → IsSameOrStarved (ended_by result) said.way }
+        → IsOrStarved (ended_by result) said.way }
     ensures faults { FaultsCounted (F.state files.old).faults (F.state files.new).faults (ended_by result) }
 
     // What is printed of a scenario that was read alone.

@@ -13,4 +13,5 @@ returns-then-not-runs_now g c =
 pub returns : goal.returns
 returns g c =
     goes_on _ _ _ _ _ Run _ _ _ c.in-Ok.ensures.ok
-    (with_script _ _ _ _ _ _ _ (now_runs _ c.in-Ok.scenario (sym c.runs_now.ensures ∙ c.if-not-runs_now.false)) c.run_read.ensures)
+    (with_script _ _ _ _ _ _ _
+    (now_runs _ c.in-Ok.scenario (sym c.runs_now.ensures ∙ c.if-not-runs_now.false)) c.run_read.ensures)
