@@ -1,0 +1,17 @@
+pub mod SeatEnds
+pub mod Places
+pub mod EndSteps
+pub mod Told
+pub mod Resting
+pub mod Ledgers
+pub mod Notes
+pub mod LaneSteps
+pub mod PacketSteps
+pub mod SeatRows
+pub mod Fitting
+pub mod Trays
+pub mod GateSteps
+pub mod ClaimReads
+pub mod AttachReads
+pub mod Openings
+pub mod Tellings
