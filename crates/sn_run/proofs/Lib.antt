@@ -14,5 +14,6 @@ pub mod Settled
 pub mod SettledApps
 pub mod SettledRows
 pub mod SettledTurns
+pub mod SpentTurns
 pub mod TextPieces
 pub mod WrittenFiles

@@ -8,17 +8,17 @@ use Rattle.sn_wiring.specs.Lost.{lost}
 use Rattle.sn_worker.specs.Ends.{left_of}
 use Rattle.sn_worker.specs.Lives.{Life}
 use Rattle.sn_run.specs.Replay.{IsReplay, IsRun, opening_desk, started, worker_plan}
-use Rattle.sn_run.specs.Reported.{RunReport, WrittenFile, outcome}
+use Rattle.sn_run.specs.Reported.{RunReport, WrittenFile, outcome_of}
 use Rattle.sn_run.specs.declared.outcome.Outcome.{Outcome}
 use Rattle.sn_run.proofs.Settled.{Alike}
-use Rattle.sn_run.proofs.SettledTurns.{settled_rounds}
+use Rattle.sn_run.proofs.SettledTurns.{alone_rounds}
 
 -- one journal is read to its end
 one_replay : (form : ScenarioForm) (captures : List (List ℕ)) (xs ys : List Entry) (a b : Life) (d e : Desk)
     → IsReplay form captures xs a d → IsReplay form captures ys b e → (xs ≡ ys) × ((a ≡ b) × (d ≡ e))
 one_replay form captures xs ys a b d e r s =
     let alike : Alike a b d e xs ys [] []
-    = (settled_rounds _ _ _ _ _).alike (opening_desk form captures) xs ys r.allowed s.allowed a b d e [] [] r.reads s.reads in
+    = (alone_rounds _ _ _ _ _).alike (opening_desk form captures) xs ys r.allowed s.allowed a b d e [] [] r.reads s.reads in
     (alike.first ∙ sym alike.second, (alike.value, alike.desk))
 
 abbrev told : List (List Entry) → List CounterRows → List WrittenFile → ℕ → RunReport
@@ -37,10 +37,10 @@ one_run form captures x y a b r s =
     = r.left
     ∙ ap (λ l. left_of (worker_plan form) l r.end) one.1.0
     ∙ ap (left_of (worker_plan form) s.life) one.1.1
-    ∙ sym s.left in (
-      r.ended ∙ ap (λ l. outcome l.spent a.left) one.1.0 ∙ ap (outcome s.life.spent) left ∙ sym s.ended,
-      ap (λ j. told j a.counters a.files a.left) journals
-          ∙ ap (λ c. told b.journals c a.files a.left) counters
-          ∙ ap (λ f. told b.journals b.counters f a.left) files
-          ∙ ap (told b.journals b.counters b.files) left,
-    )
+    ∙ sym s.left in
+    let reports : a ≡ b =
+    ap (λ j. told j a.counters a.files a.left) journals
+    ∙ ap (λ c. told b.journals c a.files a.left) counters
+    ∙ ap (λ f. told b.journals b.counters f a.left) files
+    ∙ ap (told b.journals b.counters b.files) left in
+    (r.ended ∙ ap outcome_of reports ∙ sym s.ended, reports)

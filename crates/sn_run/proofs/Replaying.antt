@@ -18,7 +18,9 @@ use Rattle.sn_worker.specs.Ends.{left_of}
 use Rattle.sn_worker.specs.Lives.{Life, new_life}
 use Rattle.sn_worker.specs.Turns.{rounds}
 use Rattle.sn_run.specs.Replay.{IsReplay, IsRun, opening_desk, opening_tray, started, worker_plan, worker_rounds}
-use Rattle.sn_run.specs.Reported.{RunReport, outcome}
+use Rattle.sn_run.specs.Reported.{RunReport, ended_by_limit, first_full, has_spent}
+use Rattle.sn_run.proofs.SpentTurns.{rounds_told, spent_by}
+use Rattle.std.specs.Prelude.{None, Some, if◌then◌else◌}
 use Rattle.sn_run.specs.declared.outcome.Outcome.{Outcome}
 
 -- no links show no queues
@@ -77,19 +79,32 @@ module _ (form : ScenarioForm) (captures held : List (List ℕ)) (entries : List
   lost_tray : tray_of bench ≡ (lost end).tray
   lost_tray = sym (tray_shown (world (tray_of bench) used [])) ∙ ap (λ d. d.tray) losing
 
+  -- the journal has a Spent entry just where the life is spent
+  spent_told : has_spent entries ≡ life.spent
+  spent_told =
+      spent_by entries life.spent
+      (rounds_told (worker_plan form) form.settings.breaths (λ r. due_of 0 r form) form.settings.rounds new_life life
+      (opening_desk form held) end entries [] replay.allowed refl replay.reads)
+
   -- outcome and report of a run whose network was lost at the end of its replay
   pub run_is : (ran : Outcome) (report : RunReport) (names : List (List ℕ)) (plan : List Action) (spent : Bool) (left : ℕ)
       → report.journals ≡ bench.past ∷ [] → report.counters ≡ bench.counters ∷ [] → report.files ≡ started names bench.files
       → names ≡ form.outputs → report.left ≡ left → left ≡ left_of plan life end → plan ≡ worker_plan form
-      → ran ≡ outcome spent left → spent ≡ life.spent → IsRun form captures ran report
-  run_is ran report names plan spent left journal counters files names_are told counted plan_is ends spent_is = record {
-    entries = entries;
-    life = life;
-    end = end;
-    replay = subst (λ cs. IsReplay form cs entries life end) same replay;
-    journal = journal ∙ ap (λ p. p ∷ []) (ap (λ t. t.log.past) lost_tray ∙ replay.past);
-    counters = counters ∙ ap (λ t. t.counters ∷ []) lost_tray;
-    files = files ∙ ap (λ n. started n bench.files) names_are ∙ ap (λ t. started form.outputs t.files) lost_tray;
-    left = told ∙ counted ∙ ap (λ p. left_of p life end) plan_is;
-    ended = ends ∙ ap (λ s. outcome s left) spent_is ∙ ap (outcome life.spent) (sym told);
-  }
+      → ran ≡ ended_by_limit (if spent then Some 0 else None) left → spent ≡ life.spent → IsRun form captures ran report
+  run_is ran report names plan spent left journal counters files names_are told counted plan_is ends spent_is =
+      let all : report.journals ≡ entries ∷ [] = journal ∙ ap (λ p. p ∷ []) (ap (λ t. t.log.past) lost_tray ∙ replay.past) in
+      record {
+        entries = entries;
+        life = life;
+        end = end;
+        replay = subst (λ cs. IsReplay form cs entries life end) same replay;
+        journal = all;
+        counters = counters ∙ ap (λ t. t.counters ∷ []) lost_tray;
+        files = files ∙ ap (λ n. started n bench.files) names_are ∙ ap (λ t. started form.outputs t.files) lost_tray;
+        left = told ∙ counted ∙ ap (λ p. left_of p life end) plan_is;
+        ended =
+            ends
+            ∙ ap (λ s. ended_by_limit (if s then Some 0 else None) left) (spent_is ∙ sym spent_told)
+            ∙ ap (λ j. ended_by_limit (first_full 0 j) left) (sym all)
+            ∙ ap (ended_by_limit (first_full 0 report.journals)) (sym told);
+      }

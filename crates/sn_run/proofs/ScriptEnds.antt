@@ -6,7 +6,7 @@ use Rattle.sn_outside.specs.declared.fault.FileFault.{FileFault}
 use Rattle.sn_outside.specs.declared.fault.FileFault.TheVariants.{Failed, TooLong as Long, OutOfMemory as NoMemory}
 use Rattle.sn_run.specs.Answers.{FaultsCounted, has_report}
 use Rattle.sn_run.specs.Courses.{Course, Finished, Follows, SaysUnwritten, Stops, Unread, Unwritten}
-use Rattle.sn_run.specs.Reported.{RunReport, WrittenFile, outcome}
+use Rattle.sn_run.specs.Reported.{RunReport, WrittenFile}
 use Rattle.sn_run.specs.Scripts.{Script, prints, refuses, reads, opens, runs}
 use Rattle.sn_run.specs.Seen.{ReadRefused, WriteRefused}
 use Rattle.sn_run.specs.Texts.{Said, SaysOrStarves, said_of, starving, unread_said, way_text}

@@ -50,7 +50,8 @@ settled_refill : Settled refill
 unfolding refill refill_one
 settled_refill =
     settled_times _ refill_one
-    (settled_bind _ claim_taken (settled_then _ _ (settled_gate _ _) (settled_read got_or_dry entry.Dry only_dry)) settled_claim)
+    (settled_bind _ claim_taken
+    (settled_then _ _ (settled_gate _ _) (settled_read got_or_dry entry.Dry only_dry refl)) settled_claim)
 
 settled_where : (names : List PacketName) → Settled (refill_where names)
 unfolding refill_where

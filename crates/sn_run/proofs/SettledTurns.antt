@@ -18,9 +18,10 @@ use Rattle.sn_worker.specs.Lives.{Life, commits, takes}
 use Rattle.sn_worker.specs.Own.{a_breath, a_due, a_round, a_spent}
 use Rattle.sn_worker.specs.Turns.{breathes, last_turn, one_round, one_turn, round, rounds, turn, turn_where, unless_spent}
 use Rattle.sn_worker.specs.Turns.{working_turn}
+use Rattle.sn_run.proofs.Settled.{Alone, alone_bind, alone_look, alone_pure, alone_read, alone_stepping, alone_then}
 use Rattle.sn_run.proofs.Settled.{IsBare, Settled, by_kinds, settled_bind, settled_folding, settled_if, settled_look}
 use Rattle.sn_run.proofs.Settled.{settled_pure}
-use Rattle.sn_run.proofs.Settled.{settled_read, settled_stepping, settled_then}
+use Rattle.sn_run.proofs.Settled.{settled_read, settled_then}
 use Rattle.sn_run.proofs.SettledApps.{settled_pulls, settled_pushes, settled_reconfigs, settled_starts, settled_stops}
 use Rattle.sn_run.proofs.SettledRows.{settled_closes, settled_opens}
 
@@ -82,7 +83,7 @@ settled_breath net =
 
 -- TURNS
 
-settled_takes_action : (a : Action) (life : Life) → Settled (takes a life)
+pub settled_takes_action : (a : Action) (life : Life) → Settled (takes a life)
 unfolding takes commits
 settled_takes_action a life =
     settled_if _ _ _
@@ -91,7 +92,7 @@ settled_takes_action a life =
     (settled_pure _)
 
 -- an entry of a worker's own is the only one of its kind
-only_round : (number : ℕ) (a : Entry) → IsBare a → (a ≡ entry.Round number) ⊎ (a_round number a ≡ None)
+pub only_round : (number : ℕ) (a : Entry) → IsBare a → (a ≡ entry.Round number) ⊎ (a_round number a ≡ None)
 only_round number =
     by_kinds (λ a. (a ≡ entry.Round number) ⊎ (a_round number a ≡ None)) (inr refl) rounds_of (λ n. inr refl) (inr refl)
     (inr refl)
@@ -116,35 +117,41 @@ only_breath : (a : Entry) → IsBare a → (a ≡ entry.Breath) ⊎ (a_breath a 
 only_breath =
     by_kinds (λ a. (a ≡ entry.Breath) ⊎ (a_breath a ≡ None)) (inr refl) (λ r. inr refl) (λ n. inr refl) (inl refl) (inr refl)
 
-only_spent : (a : Entry) → IsBare a → (a ≡ entry.Spent) ⊎ (a_spent a ≡ None)
+pub only_spent : (a : Entry) → IsBare a → (a ≡ entry.Spent) ⊎ (a_spent a ≡ None)
 only_spent =
     by_kinds (λ a. (a ≡ entry.Spent) ⊎ (a_spent a ≡ None)) (inr refl) (λ r. inr refl) (λ n. inr refl) (inr refl) (inl refl)
 
-settled_turn_where : (full : Bool) (plan : List Action) (due : ℕ) (life : Life) → Settled (turn_where full plan due life)
-unfolding turn_where last_turn working_turn breathes
-settled_turn_where true plan due life = settled_then _ _ (settled_read a_spent entry.Spent only_spent) (settled_pure _)
-settled_turn_where false plan due life =
-    settled_then _ _ (settled_read (a_due due) (entry.Hear due) (only_due due))
+pub settled_work : (plan : List Action) (due : ℕ) (life : Life) → Settled (working_turn plan due life)
+unfolding working_turn breathes
+settled_work plan due life =
+    settled_then _ _ (settled_read (a_due due) (entry.Hear due) (only_due due) refl)
     (settled_bind _ _ (settled_folding _ takes life settled_takes_action)
-    (λ later. settled_then _ _ (settled_read a_breath entry.Breath only_breath)
+    (λ later. settled_then _ _ (settled_read a_breath entry.Breath only_breath refl)
     (settled_bind _ _ (settled_breath _) (λ net. settled_pure _))))
 
-settled_one_turn : (plan : List Action) (due : ℕ) (life : Life) → Settled (one_turn plan due life)
+pub alone_turn_where : (full : Bool) (plan : List Action) (due : ℕ) (life : Life) → Alone (turn_where full plan due life)
+unfolding turn_where last_turn
+alone_turn_where true plan due life = alone_then _ _ (alone_read a_spent entry.Spent only_spent) (alone_pure _)
+alone_turn_where false plan due life = (settled_work plan due life).alone
+
+pub alone_one_turn : (plan : List Action) (due : ℕ) (life : Life) → Alone (one_turn plan due life)
 unfolding one_turn turn unless_spent
-settled_one_turn plan due life =
-    settled_bind _ _ (settled_look _ (λ d. settled_turn_where _ plan due life)) (λ later. settled_pure _)
+alone_one_turn plan due life =
+    alone_bind _ _ (alone_look _ (λ d. alone_turn_where _ plan due life)) (λ later. alone_pure _)
 
-settled_round : (plan : List Action) (breaths due number : ℕ) (life : Life) → Settled (round plan breaths due number life)
+pub alone_round : (plan : List Action) (breaths due number : ℕ) (life : Life) → Alone (round plan breaths due number life)
 unfolding round
-settled_round plan breaths due number life =
-    settled_then _ _ (settled_read (a_round number) (entry.Round number) (only_round number))
-    (settled_stepping breaths (one_turn plan due) life (settled_one_turn plan due))
+alone_round plan breaths due number life =
+    alone_then _ _ (alone_read (a_round number) (entry.Round number) (only_round number))
+    (alone_stepping breaths (one_turn plan due) life (alone_one_turn plan due))
 
-pub settled_rounds : (plan : List Action) (breaths : ℕ) (due : ℕ → ℕ) (most : ℕ) (life : Life)
-    → Settled (rounds plan breaths due most life)
-unfolding rounds one_round
-settled_rounds plan breaths due most life =
-    settled_bind _ _
-    (settled_stepping most _ (1, life)
-    (λ at. settled_bind _ _ (settled_round plan breaths (due at.0) at.0 at.1) (λ later. settled_pure _)))
-    (λ at. settled_pure _)
+pub alone_one_round : (plan : List Action) (breaths : ℕ) (due : ℕ → ℕ) (at : ℕ × Life) → Alone (one_round plan breaths due at)
+unfolding one_round
+alone_one_round plan breaths due at =
+    alone_bind _ _ (alone_round plan breaths (due at.0) at.0 at.1) (λ later. alone_pure _)
+
+pub alone_rounds : (plan : List Action) (breaths : ℕ) (due : ℕ → ℕ) (most : ℕ) (life : Life)
+    → Alone (rounds plan breaths due most life)
+unfolding rounds
+alone_rounds plan breaths due most life =
+    alone_bind _ _ (alone_stepping most _ (1, life) (alone_one_round plan breaths due)) (λ at. alone_pure _)

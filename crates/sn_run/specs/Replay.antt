@@ -16,7 +16,7 @@ use Rattle.sn_wiring.specs.Lost.{lost}
 use Rattle.sn_worker.specs.Ends.{left_of}
 use Rattle.sn_worker.specs.Lives.{Life, new_life}
 use Rattle.sn_worker.specs.Turns.{rounds}
-use Rattle.sn_run.specs.Reported.{RunReport, WrittenFile, outcome}
+use Rattle.sn_run.specs.Reported.{RunReport, WrittenFile, outcome_of}
 use Rattle.sn_run.specs.declared.outcome.Outcome.{Outcome}
 
 -- all counts are 0
@@ -76,4 +76,4 @@ pub record IsRun (form : ScenarioForm) (captures : List (List ℕ)) (ran : Outco
   pub counters : report.counters ≡ (lost end).tray.counters ∷ []
   pub files : report.files ≡ started form.outputs end.tray.files
   pub left : report.left ≡ left_of (worker_plan form) life end
-  pub ended : ran ≡ outcome life.spent report.left
+  pub ended : ran ≡ outcome_of report

@@ -1,8 +1,9 @@
 -- What a run reports, and how it ends.
-use Rattle.std.specs.Prelude.{ℕ, ◌==◌, if◌then◌else◌, Bool, true, false, List, [], ◌∷◌}
+use Rattle.std.specs.Prelude.{ℕ, ◌+◌, ◌==◌, ◌||◌, if◌then◌else◌, Bool, true, false, List, [], ◌∷◌, Option, Some, None}
 use Rattle.std.specs.FinMap.{insert}
 use Rattle.sn_app.specs.Counts.{CounterRows}
 use Rattle.sn_journal.specs.declared.entry.Entry.{Entry}
+use Rattle.sn_journal.specs.declared.entry.Entry.TheVariants.{Spent}
 use Rattle.sn_outside.specs.Contents.{Contents}
 use Rattle.sn_run.specs.declared.outcome.Outcome.{Outcome}
 use Rattle.sn_run.specs.declared.outcome.Outcome.TheVariants.{Drained, RoundsUsed, JournalLimit}
@@ -20,10 +21,28 @@ pub record RunReport : Type 0 where
   pub files : List WrittenFile
   pub left : ℕ
 
--- how a run ends of which so much is left, where its worker's journal isn't full, and where it is
-abbrev pub outcome : Bool → ℕ → Outcome
-outcome true left = JournalLimit 0
-outcome false left = if left == 0 then Drained else RoundsUsed left
+-- whether an entry says that the journal is full, and whether one of a journal's does
+abbrev pub is_spent : Entry → Bool
+is_spent Spent = true
+is_spent entry = false
+
+abbrev pub has_spent : List Entry → Bool
+has_spent [] = false
+has_spent (entry ∷ more) = is_spent entry || has_spent more
+
+-- the first worker of these with such a journal, where they are numbered on from this one
+abbrev pub first_full : ℕ → List (List Entry) → Option ℕ
+first_full worker [] = None
+first_full worker (journal ∷ more) = if has_spent journal then Some worker else first_full (worker + 1) more
+
+-- how a run ends: with the first full journal, if there is one, and else by how much was left
+abbrev pub ended_by_limit : Option ℕ → ℕ → Outcome
+ended_by_limit (Some worker) left = JournalLimit worker
+ended_by_limit None left = if left == 0 then Drained else RoundsUsed left
+
+-- how a run ended of which this is reported
+abbrev pub outcome_of : RunReport → Outcome
+outcome_of report = ended_by_limit (first_full 0 report.journals) report.left
 
 -- the contents with these files written, one after another
 abbrev pub with_files : Contents → List WrittenFile → Contents

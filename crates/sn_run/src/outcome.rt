@@ -1,7 +1,7 @@
 //! How a run ends.
-ghost use Rattle.sn_run.specs.Reported.{outcome};
+ghost use Rattle.sn_run.specs.Reported.{ended_by_limit};
 ghost use Rattle.sn_run.specs.Ways.{way_of, finished};
-ghost use Rattle.std.specs.Prelude.{◌≡◌};
+ghost use Rattle.std.specs.Prelude.{None, Some, if◌then◌else◌, ◌≡◌};
 
 use crate::Status;
 
@@ -19,7 +19,7 @@ pub enum Outcome {
 
 /// How a run of one worker ends, whose journal is full or isn't, and of which so much is left.
 pub(crate) fn outcome_of(spent: bool, left: u64) -> Outcome
-    ensures { result ≡ outcome spent left }
+    ensures { result ≡ ended_by_limit (if spent then Some 0 else None) left }
 {
     if spent {
         Outcome::JournalLimit(0)
