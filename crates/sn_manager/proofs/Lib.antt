@@ -1,0 +1,2 @@
+mod DueGrows
+mod SaidTo
