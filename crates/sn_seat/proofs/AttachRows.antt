@@ -234,7 +234,7 @@ bind_assoc m k (done x d es) = refl
 bind_assoc m k (stopped d es) = refl
 bind_assoc m k (refused d es) = refl
 
-assoc_at : (gate : Meaning Unit) (m : Meaning Bool) (k : Bool → Meaning Bool) (d : Desk) (es : List Entry)
+pub assoc_at : (gate : Meaning Unit) (m : Meaning Bool) (k : Bool → Meaning Bool) (d : Desk) (es : List Entry)
     → ((gate >>= (λ x. m)) >>= k) d es ≡ (gate >>= (λ x. m >>= k)) d es
 unfolding ◌>>=◌
 assoc_at gate m k d es = bind_assoc m k (gate d es)

@@ -101,6 +101,9 @@ leaves_claimed u v true step =
 leaves_claimed u v false step =
     subst (λ z. LeavesEnds u z) (sym step) (record { constants = refl; files = refl; ends = refl })
 
+pub leaves_noted : (entry : Entry) (u v : Tray) → v ≡ after_entry entry u → LeavesEnds u v
+leaves_noted entry u v now = subst (λ z. LeavesEnds u z) (sym now) (record { constants = refl; files = refl; ends = refl })
+
 -- a packet that came is the one that is freed
 pub there_laid : (hold : Held) (used : ℕ → Option PacketState) (place : ℕ) (packet : PacketState)
     → used_of hold ≡ put_at place (Some packet) used → there hold place ≡ packet

@@ -12,3 +12,5 @@ mod ClaimRows
 mod AttachRows
 mod DetachRows
 mod Opened
+mod GiveRows
+mod Outcomes

@@ -1,6 +1,6 @@
 -- The interlinks of a seat's ends are there.
 use Rattle.std.proofs.Common.{◌≡◌, ℕ, suc, ◌<◌, ◌==◌, ◌||◌, ◌∙◌, Bool, true, false, List, [], ◌∷◌, length, Some, refl, sym}
-use Rattle.std.proofs.Common.{ap, slice_get}
+use Rattle.std.proofs.Common.{ap, slice_get, subst}
 use Rattle.std.proofs.lemmas.Bool.{and_parts, eqb-true}
 use Rattle.std.proofs.lemmas.Option.{slice_get_within}
 use Rattle.sn_channel.specs.Ends.{ChannelId}
@@ -38,3 +38,10 @@ pub link_within : {bond : Bond} {lanes : List LaneId} {group : GroupState} {chan
 link_within {bond} {lanes} fits number side has =
     let at = wire_at bond.wiring.ends number side has in
     slice_get_within lanes number at.wire.2 (ap (slice_get lanes) (sym at.number_is) ∙ fits.ends at.k at.wire at.there)
+
+-- the channel of a seat's worker, where a seat stayed what it belongs to
+pub channel_at : {bond : Bond} {lanes : List LaneId} {group : GroupState} {channels : List ChannelId} {captures : ℕ}
+    → Belongs bond lanes group channels captures → (other : Bond) → other ≡ bond
+    → slice_get channels other.worker ≡ Some other.wiring.channel
+channel_at {channels = channels} fits other same =
+    subst (λ (b : Bond). slice_get channels b.worker ≡ Some b.wiring.channel) (sym same) fits.channel

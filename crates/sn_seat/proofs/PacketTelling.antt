@@ -1,5 +1,6 @@
 -- What a journal tells of packets that come and go.
 use Rattle.std.proofs.Common.{◌≡◌, ℕ, ◌+◌, ◌-◌, ◌<◌, List, [], ◌∷◌, ◌++◌, get_or, set, Some, refl, sym, ap, ◌∙◌, subst, arith}
+use Rattle.std.proofs.Common.{Option, None}
 use Rattle.std.proofs.Common.{append-nil}
 use Rattle.sn_channel.specs.Ends.{ListenerLog}
 use Rattle.sn_core.specs.declared.events.Side.{Side}
@@ -10,10 +11,11 @@ use Rattle.sn_interlink.specs.declared.entry.LaneEntry.TheVariants as lane
 use Rattle.sn_interlink.specs.declared.view.EndState.{EndState}
 use Rattle.sn_interlink.specs.declared.view.EndState.TheVariants.{Up, Closing}
 use Rattle.sn_journal.specs.declared.entry.Entry.{Entry}
-use Rattle.sn_journal.specs.declared.entry.Entry.TheVariants.{Drain, Got, Put, Take}
-use Rattle.sn_packet.specs.Hold.{Held, weight}
+use Rattle.sn_journal.specs.declared.entry.Entry.TheVariants.{Drain, Full, Gave, Got, Put, Take}
+use Rattle.sn_packet.specs.Hold.{Held, put_at, weight}
 use Rattle.sn_packet.specs.Packet.{PacketState, with_bytes}
 use Rattle.sn_app.specs.Desk.{End, out_end}
+use Rattle.sn_app.proofs.Gaining.{put_at_kept, put_at_twice}
 use Rattle.sn_seat.specs.Places.{IsEndAt}
 use Rattle.sn_seat.specs.Resting.{AtRest, Quiet}
 use Rattle.sn_seat.specs.SeatEnds.{Numbered, desk_end, end_in, ends_in, known_by, side_in}
@@ -114,3 +116,41 @@ same_first x y e = cc
 -- one position less may be moved
 pub one_less : (e f : LaneEnd) → reach_of f ≡ reach_of e - 1 → 0 < reach_of e → reach_of f < reach_of e
 one_less e f now some = omega (arith, now, some)
+
+-- a packet went to the group
+pub told_gave : {entries : List Entry} {hold : Held} {ends : List Numbered} {seat : SeatState} {listener : ListenerLog}
+    (told : Told entries hold ends seat listener) (after : SeatState) (later : Held) (packet : PacketState) (name turn : ℕ)
+    → name ≡ packet.number → turn ≡ packet.turn + 1 → after.log ≡ seat.log ++ (group.Gave name turn ∷ []) ∷ []
+    → ((f : ℕ → ℕ → ℕ) → weight f later + f packet.number packet.turn ≡ weight f hold)
+    → Told (entries ++ Gave name turn ∷ []) later ends after listener
+told_gave {hold = hold} {listener = listener} told after later packet name turn n t log gone =
+    told_other told later after listener (Gave name turn) refl log (sym (append-nil listener.heard))
+    (λ f.
+    let before : turn - 1 ≡ packet.turn = omega (arith, t) in
+    let same : f name (turn - 1) ≡ f packet.number packet.turn = ap (λ m. f m (turn - 1)) n ∙ ap (f packet.number) before in
+    omega (arith, same, gone f))
+
+-- or the group had no room for it
+pub told_full : {entries : List Entry} {hold : Held} {ends : List Numbered} {seat : SeatState} {listener : ListenerLog}
+    (told : Told entries hold ends seat listener) (after : SeatState) (middle later : Held) (packet back : PacketState)
+    (name turn : ℕ) → after.log ≡ seat.log ++ (group.Full name turn ∷ []) ∷ [] → back ≡ packet
+    → ((f : ℕ → ℕ → ℕ) → weight f middle + f packet.number packet.turn ≡ weight f hold)
+    → ((f : ℕ → ℕ → ℕ) → weight f later ≡ weight f middle + f back.number back.turn)
+    → Told (entries ++ Full name turn ∷ []) later ends after listener
+told_full {hold = hold} {listener = listener} told after middle later packet back name turn log same gone came =
+    told_other told later after listener (Full name turn) refl log (sym (append-nil listener.heard))
+    (λ f. let is : f back.number back.turn ≡ f packet.number packet.turn = ap (λ p. f p.number p.turn) same in
+    omega (arith, is, gone f, came f))
+
+-- a packet that comes back to its place
+pub back_in_place : (used middle later : ℕ → Option PacketState) (place other : ℕ) (packet back : PacketState) → other ≡ place
+    → back ≡ packet → used place ≡ Some packet → middle ≡ put_at place None used → later ≡ put_at other (Some back) middle
+    → later ≡ used
+back_in_place used middle later place other packet back at same was gone came =
+    came ∙ (ap (λ q. put_at q (Some back) middle) at ∙ (ap (λ p. put_at place (Some p) middle) same
+    ∙ (ap (put_at place (Some packet)) gone ∙ (put_at_twice place (Some packet) None used
+    ∙ put_at_kept place (Some packet) used was))))
+
+-- a raised turn
+pub raised_is : (turn before now : ℕ) → turn ≡ before + 1 → before ≡ now → turn ≡ now + 1
+raised_is turn before now raised same = raised ∙ ap (λ n. n + 1) same

@@ -15,3 +15,5 @@ pub mod ClaimReads
 pub mod AttachReads
 pub mod Openings
 pub mod Tellings
+pub mod GiveSteps
+pub mod Lives

@@ -1,11 +1,12 @@
 //! What a ledger does at no interlink and with no packet: it makes room, notes entries, and hears.
 use crate::ledger::Ledger;
-use sn_channel::Channel;
+use sn_channel::{Channel, Speaker};
 use sn_journal::Entry;
 use std::alloc::AllocError;
 
 impl Ledger {
     ghost use Rattle.std.specs.Prelude.{◌≡◌, ◌≤◌, ◌∷◌, ◌++◌, [], OnOk};
+    ghost use Rattle.sn_channel.specs.Ends.{last_said};
     ghost use Rattle.sn_seat.specs.Ledgers.{SameBook, wiring_of};
     ghost use Rattle.sn_seat.specs.Notes.{IsPlain};
     ghost use Rattle.sn_journal.specs.declared.entry.Entry.TheVariants.{Hear};
@@ -55,5 +56,19 @@ impl Ledger {
         let due = self.listener.hear(channel);
         self.journal.add(Entry::Hear(due));
         due
+    }
+
+    /// Meets the speaker of the channel.
+    pub(crate) fn meet(&mut self, channel: &Channel, speaker: &mut Speaker)
+        requires listener { self.old.listener.channel ≡ channel.now }
+        requires speaker { speaker.old.channel ≡ channel.now }
+        ensures met { self.new.listener.met ≡ last_said speaker.old.said }
+        ensures journal { self.new.journal ≡ self.old.journal }
+        ensures hold { self.new.hold ≡ self.old.hold }
+        ensures ends { self.new.ends ≡ self.old.ends }
+        ensures wiring { wiring_of self.new ≡ wiring_of self.old }
+        ensures speaker { speaker.new ≡ speaker.old }
+    {
+        self.listener.meet(channel, speaker);
     }
 }

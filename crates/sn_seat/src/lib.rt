@@ -3,8 +3,10 @@
 
 mod ends;
 mod gates;
+mod gave;
 mod ledger;
 mod ledger_ends;
+mod ledger_give;
 mod ledger_notes;
 mod ledger_packets;
 mod live;
@@ -19,8 +21,10 @@ mod seat_lanes;
 mod seat_packets;
 mod seat_rows;
 mod shared;
+mod worker_calls;
 
 pub use ends::Ends;
+pub use gave::Gave;
 pub use live::Live;
 pub use seat::Seat;
 pub use shared::Shared;

@@ -1,0 +1,12 @@
+-- A fact for one outcome, for all captures and for some.
+use Rattle.std.proofs.Common.{List, OnErr, OnOk, Result, Ok, Err, ℕ}
+
+pub on_ok_at : {T E : Type 0} (r : Result T E) (P : List (List ℕ) → Type 0) (captures : List (List ℕ))
+    → OnOk r ((all : List (List ℕ)) → P all) → OnOk r (P captures)
+on_ok_at (Ok x) P captures h = h captures
+on_ok_at (Err e) P captures h = h
+
+pub on_err_at : {T E : Type 0} (r : Result T E) (P : List (List ℕ) → Type 0) (captures : List (List ℕ))
+    → OnErr r ((all : List (List ℕ)) → P all) → OnErr r (P captures)
+on_err_at (Ok x) P captures h = h
+on_err_at (Err e) P captures h = h captures

@@ -1,0 +1,153 @@
+//! What a worker does with its seat beside its apps' calls.
+ghost use Rattle.std.specs.Prelude.{◌≡◌, ◌<◌, Some, length, slice_get};
+
+use crate::gates::Before;
+use crate::gave::Gave;
+use crate::seat::Seat;
+use crate::shared::Shared;
+use sn_app::Halt;
+use sn_channel::{Channel, Speaker};
+use sn_journal::Entry;
+use std::alloc::AllocError;
+
+/// The channel of this worker.
+fn channel_of(shared: &Shared, worker: u32) -> &Channel
+    requires { worker < length shared.now.channels.items }
+    ensures { slice_get shared.now.channels.items worker ≡ Some result.now }
+{
+    &shared.channels[worker as usize]
+}
+
+impl Seat {
+    ghost use Rattle.std.specs.Prelude.{◌≡◌, ◌≤◌, ◌<◌, [], IfNone, IfOk, IfSome, IsSome, List, true, None, OnErr, OnOk, Some};
+    ghost use Rattle.std.specs.Prelude.{length};
+    ghost use Rattle.std.specs.Prelude.{slice_get, ℕ};
+    ghost use Rattle.sn_packet.specs.Hold.{at_of};
+    ghost use Rattle.sn_packet.specs.Packet.{is_worn};
+    ghost use Rattle.sn_app.specs.Answers.{OnTray};
+    ghost use Rattle.sn_app.specs.Calls.{LeavesEnds};
+    ghost use Rattle.sn_app.specs.Desk.{after_entry, name_of};
+    ghost use Rattle.sn_app.specs.Rows.{row_give, row_hear};
+    ghost use Rattle.sn_app.specs.World.{packet_at};
+    ghost use Rattle.sn_channel.specs.Ends.{last_said};
+    ghost use Rattle.sn_seat.specs.GiveSteps.{given_answer, is_worn_gave, used_after};
+    ghost use Rattle.sn_seat.specs.declared.gave.Gave.TheVariants.{Worn};
+    ghost use Rattle.sn_seat.specs.Notes.{IsPlain};
+    ghost use Rattle.sn_seat.specs.Tellings.{seat_hold, seat_listener};
+    ghost use Rattle.sn_seat.specs.Trays.{Fits, bond_of, seat_tray, seat_used, tray_in};
+
+    /// Adds an entry that tells of no shared object and of no packet.
+    pub(crate) fn note(&mut self, entry: Entry) -> Result<(), AllocError>
+        requires { IsPlain entry }
+        ensures noted { OnOk result ((captures : List (List ℕ))
+            → seat_tray captures self.new ≡ after_entry entry (seat_tray captures self.old)) }
+        ensures refused { OnErr result ((captures : List (List ℕ)) → seat_tray captures self.new ≡ seat_tray captures self.old) }
+        ensures used { seat_used self.new ≡ seat_used self.old }
+        ensures kept { bond_of self.new ≡ bond_of self.old }
+    {
+        self.ledger.reserve()?;
+        self.ledger.note(entry);
+        self.gates = 0;
+        Ok(())
+    }
+
+    /// How many packets are free.
+    pub(crate) fn frees(&self) -> u64
+        ensures { (captures : List (List ℕ)) → result ≡ length (seat_tray captures self.now).free }
+    {
+        self.ledger.hold.frees()
+    }
+
+    /// The least held place that isn't below `from`.
+    pub(crate) fn held(&self, from: u32) -> Option<u32>
+        ensures held { IfSome result (λ place. IsSome (at_of (seat_hold self.now) place)) }
+        ensures from { IfSome result (λ place. from ≤ place) }
+        ensures least { IfSome result (λ place.
+            (other : ℕ) → from ≤ other → other < place → at_of (seat_hold self.now) other ≡ None) }
+        ensures none { IfNone result ((other : ℕ) → from ≤ other → at_of (seat_hold self.now) other ≡ None) }
+    {
+        self.ledger.hold.held_from(from)
+    }
+
+    /// Hears how many actions are due.
+    pub(crate) fn hear<G: Before>(&mut self, shared: &Shared, gate: &G) -> Result<u64, Halt>
+        requires fits { Fits self.old shared.now }
+        ensures reads { OnTray row_hear (tray_in shared.now self.old) (tray_in shared.now self.new) result }
+        ensures used { seat_used self.new ≡ seat_used self.old }
+        ensures leaves { LeavesEnds (tray_in shared.now self.old) (tray_in shared.now self.new) }
+        ensures kept { bond_of self.new ≡ bond_of self.old }
+    {
+        self.gate(gate)?;
+        let due = self.ledger.hear(channel_of(shared, self.worker));
+        self.gates = 0;
+        Ok(due)
+    }
+
+    /// A worn packet stays held, and that is noted.
+    fn keep_worn(&mut self, place: u32) -> Result<Gave, Halt>
+        requires place { IsSome (seat_used self.old place) }
+        requires worn { is_worn (packet_at (seat_used self.old) place) ≡ true }
+        ensures reads { (captures : List (List ℕ)) → OnTray (row_give (name_of (packet_at (seat_used self.old) place)))
+            (seat_tray captures self.old) (seat_tray captures self.new) (given_answer result) }
+        ensures answer { IfOk result (λ gave. gave ≡ Worn) }
+        ensures used { seat_used self.new ≡ seat_used self.old }
+        ensures leaves { (captures : List (List ℕ)) → LeavesEnds (seat_tray captures self.old) (seat_tray captures self.new) }
+        ensures kept { bond_of self.new ≡ bond_of self.old }
+    {
+        let packet = self.ledger.hold.packet(place);
+        let entry = Entry::Worn(packet.number(), packet.turn());
+        self.note(entry)?;
+        Ok(Gave::Worn)
+    }
+
+    /// Gives the packet at a place to the group.
+    pub(crate) fn give<G: Before>(
+        &mut self,
+        shared: &Shared,
+        gate: &G,
+        place: u32,
+    ) -> Result<Gave, Halt>
+        requires fits { Fits self.old shared.now }
+        requires place { IsSome (seat_used self.old place) }
+        ensures reads { OnTray (row_give (name_of (packet_at (seat_used self.old) place)))
+            (tray_in shared.now self.old) (tray_in shared.now self.new) (given_answer result) }
+        ensures worn { IfOk result (λ gave. is_worn (packet_at (seat_used self.old) place) ≡ is_worn_gave gave) }
+        ensures used { IfOk result (λ gave. seat_used self.new ≡ used_after place gave (seat_used self.old)) }
+        ensures leaves { LeavesEnds (tray_in shared.now self.old) (tray_in shared.now self.new) }
+        ensures kept { bond_of self.new ≡ bond_of self.old }
+    {
+        if self.worn(place) {
+            return self.keep_worn(place);
+        }
+        self.room_for_one()?;
+        self.gate(gate)?;
+        let gave = self.ledger.give(&shared.group, place);
+        self.gates = 0;
+        Ok(gave)
+    }
+
+    /// No packet is free any more, and all stay held. Nothing is under way at the group between two calls.
+    pub(crate) fn settle(&mut self) -> Result<(), Halt>
+        ensures tray { (captures : List (List ℕ)) → seat_tray captures self.new ≡ record (seat_tray captures self.old)
+            { free = [] } }
+        ensures used { seat_used self.new ≡ at_of (seat_hold self.old) }
+        ensures kept { bond_of self.new ≡ bond_of self.old }
+    {
+        self.ledger.clear_free();
+        Ok(())
+    }
+
+    /// The seat's listener meets the speaker of its channel. From now on it hears at least what the speaker has said last.
+    pub fn meet(&mut self, shared: &Shared, speaker: &mut Speaker)
+        requires fits { Fits self.old shared.now }
+        requires speaker { slice_get shared.now.channels.items (bond_of self.old).worker ≡ Some speaker.old.channel }
+        ensures met { (seat_listener self.new).met ≡ last_said speaker.old.said }
+        ensures tray { (captures : List (List ℕ)) → seat_tray captures self.new ≡ seat_tray captures self.old }
+        ensures used { seat_used self.new ≡ seat_used self.old }
+        ensures speaker { speaker.new ≡ speaker.old }
+        ensures kept { bond_of self.new ≡ bond_of self.old }
+    {
+        let channel = &shared.channels[self.worker as usize];
+        self.ledger.meet(channel, speaker);
+    }
+}
