@@ -11,6 +11,7 @@ use sn_outside::Gate;
 use std::alloc::AllocError;
 
 /// A seat with what it shares and with the gate before each of its steps.
+#[derive(Drop)]
 pub struct Live<'a, G: Gate> {
     pub seat: &'a mut Seat,
     pub shared: &'a Shared,

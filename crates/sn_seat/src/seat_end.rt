@@ -17,8 +17,10 @@ use sn_packet::Packet;
 
 /// An end of an interlink.
 #[derive(Drop)]
-pub(crate) enum SeatEnd {
+pub enum SeatEnd {
+    /// The transmitter.
     Transmitter(TxEnd),
+    /// The receiver.
     Receiver(RxEnd),
 }
 
