@@ -1,0 +1,7 @@
+-- answers of src/wire.rt, pull_once
+use Rattle.sn_app.specs.World.{desk_of}
+use Rattle.seat_bench.proofs.wire.pull_once.Goals as goal
+
+pub returns-clause-stays : goal.returns-clause-stays
+unfolding desk_of
+returns-clause-stays g c = c.pull-ended.ensures.runs.answers.stays
