@@ -20,7 +20,7 @@ pub struct Live<'a, G: Gate> {
 }
 
 impl<'a, G: Gate> Live<'a, G> {
-    ghost use Rattle.std.specs.Prelude.{◌≡◌, ◌≤◌, ◌<◌, [], IfNone, IfOk, IfSome, IsSome, None, OnErr, OnOk, length, ℕ};
+    ghost use Rattle.std.specs.Prelude.{◌≡◌, ◌≤◌, ◌<◌, [], IfNone, IfOk, IfSome, IsOk, IsSome, None, OnErr, OnOk, length, ℕ};
     ghost use Rattle.sn_packet.specs.Hold.{at_of};
     ghost use Rattle.sn_packet.specs.Packet.{is_worn};
     ghost use Rattle.sn_app.specs.Answers.{OnTray};
@@ -102,6 +102,7 @@ impl<'a, G: Gate> Live<'a, G> {
     /// # Errors
     /// None yet.
     pub fn settle(&mut self) -> Result<(), Halt>
+        ensures ok { IsOk result }
         ensures tray { live_tray self.new ≡ record (live_tray self.old) { free = [] } }
         ensures used { live_used self.new ≡ at_of (seat_hold self.old.seat.now) }
         ensures lent { self.new.seat.ghost_name ≡ self.old.seat.ghost_name }

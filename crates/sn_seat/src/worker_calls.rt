@@ -19,7 +19,7 @@ fn channel_of(shared: &Shared, worker: u32) -> &Channel
 }
 
 impl Seat {
-    ghost use Rattle.std.specs.Prelude.{◌≡◌, ◌≤◌, ◌<◌, [], IfNone, IfOk, IfSome, IsSome, List, true, None, OnErr, OnOk, Some};
+    ghost use Rattle.std.specs.Prelude.{◌≡◌, ◌≤◌, ◌<◌, [], IfNone, IfOk, IfSome, IsOk, IsSome, List, true, None, OnErr, OnOk, Some};
     ghost use Rattle.std.specs.Prelude.{length};
     ghost use Rattle.std.specs.Prelude.{slice_get, ℕ};
     ghost use Rattle.sn_packet.specs.Hold.{at_of};
@@ -128,6 +128,7 @@ impl Seat {
 
     /// No packet is free any more, and all stay held. Nothing is under way at the group between two calls.
     pub(crate) fn settle(&mut self) -> Result<(), Halt>
+        ensures ok { IsOk result }
         ensures tray { (captures : List (List ℕ)) → seat_tray captures self.new ≡ record (seat_tray captures self.old)
             { free = [] } }
         ensures used { seat_used self.new ≡ at_of (seat_hold self.old) }
