@@ -1,6 +1,6 @@
 -- A worker with one end, over what it shares.
 use Rattle.std.proofs.Common.{◌≡◌, ◌∙◌, ◌≤◌, ◌==◌, ℕ, zero, suc, Bool, true, false, List, [], ◌∷◌, Some, None, if◌then◌else◌}
-use Rattle.std.proofs.Common.{ap, ap₂, arith, refl, slice_get, subst, sym}
+use Rattle.std.proofs.Common.{ap, ap₂, arith, length, refl, slice_get, subst, sym}
 use Rattle.sn_channel.specs.Ends.{ChannelId}
 use Rattle.sn_group.specs.Seats.{GroupId, GroupState}
 use Rattle.sn_core.specs.declared.events.Side.{Side}
@@ -51,40 +51,43 @@ stands_at lanes w stands (suc k) v there = absurd cc
 none_stands : (lanes : List LaneId) (k : ℕ) (v : Wire) → slice_get [] k ≡ Some v → StandsIn lanes v
 none_stands lanes k v there = absurd cc
 
-abbrev bond : ℕ → List Wire → GroupId → ChannelId → Bond
-bond worker ends group channel = record {
+abbrev bond : ℕ → List Wire → GroupId → ChannelId → ℕ → Bond
+bond worker ends group channel met = record {
   worker = worker;
-  wiring = record { ends = ends; group = group; channel = channel };
+  wiring = record { ends = ends; group = group; channel = channel; met = met };
   captures = 0;
+  lanes = 1;
 }
 
 belongs : (worker : ℕ) (ends : List Wire) (lanes : List LaneId) (group : GroupState) (mine : GroupId) (channels : List ChannelId)
-    (channel : ChannelId) (captures : ℕ) → ((k : ℕ) (v : Wire) → slice_get ends k ≡ Some v → StandsIn lanes v)
-    → mine ≡ group.id → slice_get channels worker ≡ Some channel → captures ≡ 0
-    → Belongs (bond worker ends mine channel) lanes group channels captures
-belongs worker ends lanes group mine channels channel captures stand same heard none = record {
+    (channel : ChannelId) (met captures : ℕ) → ((k : ℕ) (v : Wire) → slice_get ends k ≡ Some v → StandsIn lanes v)
+    → mine ≡ group.id → slice_get channels worker ≡ Some channel → captures ≡ 0 → length lanes ≤ 1
+    → Belongs (bond worker ends mine channel met) lanes group channels captures
+belongs worker ends lanes group mine channels channel met captures stand same heard none one = record {
   ends = stand;
   group_is = same;
   channel = heard;
   captures_are = none;
+  lanes_known = one;
 }
 
 module _ (b : Bond) (worker : ℕ) (lanes : List LaneId) (group : GroupState) (mine : GroupId) (channels : List ChannelId)
     (channel : ChannelId) (captures : ℕ) where
   -- a worker with one end
-  pub one_fits : (x : Numbered) → b ≡ bond worker (wires (x ∷ [])) mine channel → slice_get lanes x.0 ≡ Some (end_in x.1).lane
-      → mine ≡ group.id → slice_get channels worker ≡ Some channel → captures ≡ 0 → Belongs b lanes group channels captures
-  one_fits x is stands same heard none =
+  pub one_fits : {met : ℕ} (x : Numbered) → b ≡ bond worker (wires (x ∷ [])) mine channel met
+      → slice_get lanes x.0 ≡ Some (end_in x.1).lane → mine ≡ group.id → slice_get channels worker ≡ Some channel → captures ≡ 0
+      → length lanes ≤ 1 → Belongs b lanes group channels captures
+  one_fits {met} x is stands same heard none one =
       subst (λ a. Belongs a lanes group channels captures) (sym is)
-      (belongs worker (wires (x ∷ [])) lanes group mine channels channel captures (stands_at lanes (wire_of x) stands) same
-      heard none)
+      (belongs worker (wires (x ∷ [])) lanes group mine channels channel met captures (stands_at lanes (wire_of x) stands)
+      same heard none one)
 
   -- a worker with no end
-  pub none_fits : b ≡ bond worker [] mine channel → mine ≡ group.id → slice_get channels worker ≡ Some channel → captures ≡ 0
-      → Belongs b lanes group channels captures
-  none_fits is same heard none =
+  pub none_fits : {met : ℕ} → b ≡ bond worker [] mine channel met → mine ≡ group.id → slice_get channels worker ≡ Some channel
+      → captures ≡ 0 → length lanes ≤ 1 → Belongs b lanes group channels captures
+  none_fits {met} is same heard none one =
       subst (λ a. Belongs a lanes group channels captures) (sym is)
-      (belongs worker [] lanes group mine channels channel captures (none_stands lanes) same heard none)
+      (belongs worker [] lanes group mine channels channel met captures (none_stands lanes) same heard none one)
 
 -- the ends of a worker with one of them
 pub all_receiver : {tx rx : List (ℕ × LaneEnd)} {e : LaneEnd} → tx ≡ [] → rx ≡ (0, e) ∷ []
@@ -112,6 +115,11 @@ pub second_is : {A : Type 0} {xs ys : List A} {w x y : A} → xs ≡ w ∷ x ∷
 second_is list same = ap (λ zs. slice_get zs 1) list ∙ ap Some same
 
 -- what a bond says of the ends
-pub bond_as : {b : Bond} {worker : ℕ} {ends : List Numbered} {x : Numbered} {group : GroupId} {channel : ChannelId}
-    → b ≡ bond worker (wires ends) group channel → ends ≡ x ∷ [] → b ≡ bond worker (wires (x ∷ [])) group channel
-bond_as {b} {worker} {ends} {x} {group} {channel} is same = is ∙ ap (λ es. bond worker (wires es) group channel) same
+pub bond_as : {b : Bond} {worker : ℕ} {ends : List Numbered} {x : Numbered} {group : GroupId} {channel : ChannelId} {met : ℕ}
+    → b ≡ bond worker (wires ends) group channel met → ends ≡ x ∷ [] → b ≡ bond worker (wires (x ∷ [])) group channel met
+bond_as {b} {worker} {ends} {x} {group} {channel} {met} is same =
+    is ∙ ap (λ es. bond worker (wires es) group channel met) same
+
+-- a list of one
+pub one_long : {A : Type 0} {xs : List A} {x : A} → xs ≡ x ∷ [] → length xs ≤ 1
+one_long list = let e = ap length list in omega (arith, e)

@@ -1,5 +1,5 @@
 -- A worker of a rig: a seat with an end of one interlink, and with names for two apps.
-use Rattle.std.specs.Prelude.{ℕ, ◌≡◌, IsTrue, [], ◌∷◌, length, None, Some, slice_get}
+use Rattle.std.specs.Prelude.{ℕ, ◌≡◌, ◌≤◌, IsTrue, [], ◌∷◌, length, None, Some, slice_get}
 use Rattle.sn_channel.specs.Ends.{ListenerLog}
 use Rattle.sn_core.specs.declared.events.Side.{Side}
 use Rattle.sn_core.specs.declared.events.Side.TheVariants.{Tx}
@@ -37,3 +37,4 @@ pub record IsForFirst (shared : Shared) (tx : LaneEnd) (seat : SeatState) (liste
   pub channel : slice_get shared.channels.items 0 ≡ Some listener.channel
   pub unheard : listener.heard ≡ []
   pub captures : length shared.captures.items ≡ 0
+  pub one : length shared.lanes.items ≤ 1

@@ -73,8 +73,10 @@ fn seat_of(
             ends = wires (all_ends ends.tx.items ends.rx.items);
             group = group.group;
             channel = listener.channel;
+            met = listener.met;
           };
           captures = 0;
+          lanes = 1;
         }) }
 {
     let roster = names(alloc)?;

@@ -1,4 +1,5 @@
 //! A bench is a context: its calls at packets, captures, files and counters read no entry, and the others read its script.
+ghost use base.Stored.{gnil};
 ghost use Rattle.std.specs.Prelude.{◌≡◌, ◌≢◌, ◌<◌, ◌≤◌, ℕ, false};
 ghost use Rattle.std.specs.Prelude.{IfErr, IfOk, IfSome, IsSome, IsTrue, None, OnOk, Ok, Some, length, replicate, take};
 ghost use Rattle.sn_packet.specs.Hold.{put_at, used_of};
@@ -30,8 +31,8 @@ impl Ctx for Bench {
 
     ghost used = { λ bench. used_of bench.held };
 
-    // It holds no borrow.
-    ghost lender = { λ bench. 0 };
+    // Nothing was lent to it.
+    ghost lender = { λ bench. gnil };
 
     fn allocate(&mut self) -> Result<Option<u32>, Halt>
         ensures reads { OnTray row_allocate (tray_of self.old) (tray_of self.new) (named (used_of self.new.held) result) }

@@ -1,4 +1,5 @@
 //! The context that apps run over.
+ghost use base.Stored.{Gv};
 ghost use Rattle.std.specs.Prelude.{◌≡◌, ◌≢◌, ℕ, ◌-◌, ◌<◌, ◌≤◌, false, replicate, take, length, IfOk, IfSome};
 ghost use Rattle.std.specs.Prelude.{IfNone, IsSome, IsTrue, None, OnOk, Ok, Some, slice_get};
 ghost use Rattle.sn_packet.specs.Hold.{put_at};
@@ -32,8 +33,8 @@ pub trait Ctx {
 
     ghost used: { Self → Used };
 
-    // Names a borrow that the context holds, so that its lender knows that it comes back.
-    ghost lender: { Self → ℕ };
+    // Names what was lent to the context, a borrow and what it belongs to, so that who lent it knows it again.
+    ghost lender: { Self → Gv };
 
     /// A free packet, of any bytes, at its place. Where there is none, up to 64 are claimed first. None where none came.
     ///

@@ -14,3 +14,4 @@ mod DetachRows
 mod Opened
 mod GiveRows
 mod Outcomes
+pub mod Lending

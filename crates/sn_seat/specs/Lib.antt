@@ -9,6 +9,7 @@ pub mod LaneSteps
 pub mod PacketSteps
 pub mod SeatRows
 pub mod Fitting
+pub mod Lenders
 pub mod Trays
 pub mod GateSteps
 pub mod ClaimReads

@@ -60,9 +60,14 @@ captures_of shared = shared.captures.items
 abbrev pub tray_in : Shared → Seat → Tray
 tray_in shared seat = seat_tray (captures_of shared) seat
 
--- to what a seat belongs; no call changes it
+-- to what a seat belongs; no call changes it but that its listener meets its speaker again
 abbrev pub bond_of : Seat → Bond
-bond_of seat = record { worker = seat.worker; wiring = wiring_of seat.ledger; captures = length seat.roster.captures }
+bond_of seat = record {
+  worker = seat.worker;
+  wiring = wiring_of seat.ledger;
+  captures = length seat.roster.captures;
+  lanes = length seat.roster.lanes;
+}
 
 -- shared objects are those to which a seat belongs
 abbrev pub Fits : Seat → Shared → Type 0

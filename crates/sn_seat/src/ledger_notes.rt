@@ -66,7 +66,7 @@ impl Ledger {
         ensures journal { self.new.journal ≡ self.old.journal }
         ensures hold { self.new.hold ≡ self.old.hold }
         ensures ends { self.new.ends ≡ self.old.ends }
-        ensures wiring { wiring_of self.new ≡ wiring_of self.old }
+        ensures wiring { wiring_of self.new ≡ record (wiring_of self.old) { met = last_said speaker.old.said } }
         ensures speaker { speaker.new ≡ speaker.old }
     {
         self.listener.meet(channel, speaker);

@@ -31,7 +31,8 @@ impl<'a, G: Gate> Live<'a, G> {
     ghost use Rattle.sn_seat.specs.GiveSteps.{given_answer, is_worn_gave, used_after};
     ghost use Rattle.sn_seat.specs.Lives.{live_tray, live_used};
     ghost use Rattle.sn_seat.specs.Notes.{IsPlain};
-    ghost use Rattle.sn_seat.specs.Tellings.{seat_hold};
+    ghost use Rattle.sn_seat.specs.Tellings.{seat_hold, seat_listener};
+    ghost use Rattle.sn_seat.specs.Trays.{bond_of};
 
     /// Adds an entry of the worker's own: a round, a breath, that the journal is at its limit, that the slot is closed, that a
     /// reclamation ended, or that a new life begins.
@@ -44,6 +45,9 @@ impl<'a, G: Gate> Live<'a, G> {
         ensures refused { OnErr result (live_tray self.new ≡ live_tray self.old) }
         ensures used { live_used self.new ≡ live_used self.old }
         ensures lent { self.new.seat.ghost_name ≡ self.old.seat.ghost_name }
+        ensures kept { bond_of self.new.seat.now ≡ bond_of self.old.seat.now }
+        ensures met { (seat_listener self.new.seat.now).met ≡ (seat_listener self.old.seat.now).met }
+        ensures shared { self.new.shared.now ≡ self.old.shared.now }
     {
         self.seat.note(entry)
     }
@@ -75,6 +79,9 @@ impl<'a, G: Gate> Live<'a, G> {
         ensures used { live_used self.new ≡ live_used self.old }
         ensures leaves { LeavesEnds (live_tray self.old) (live_tray self.new) }
         ensures lent { self.new.seat.ghost_name ≡ self.old.seat.ghost_name }
+        ensures kept { bond_of self.new.seat.now ≡ bond_of self.old.seat.now }
+        ensures met { (seat_listener self.new.seat.now).met ≡ (seat_listener self.old.seat.now).met }
+        ensures shared { self.new.shared.now ≡ self.old.shared.now }
     {
         self.seat.hear(self.shared, &Turnstile { gate: self.gate })
     }
@@ -92,6 +99,9 @@ impl<'a, G: Gate> Live<'a, G> {
         ensures used { IfOk result (λ gave. live_used self.new ≡ used_after place gave (live_used self.old)) }
         ensures leaves { LeavesEnds (live_tray self.old) (live_tray self.new) }
         ensures lent { self.new.seat.ghost_name ≡ self.old.seat.ghost_name }
+        ensures kept { bond_of self.new.seat.now ≡ bond_of self.old.seat.now }
+        ensures met { (seat_listener self.new.seat.now).met ≡ (seat_listener self.old.seat.now).met }
+        ensures shared { self.new.shared.now ≡ self.old.shared.now }
     {
         self.seat
             .give(self.shared, &Turnstile { gate: self.gate }, place)
@@ -106,6 +116,9 @@ impl<'a, G: Gate> Live<'a, G> {
         ensures tray { live_tray self.new ≡ record (live_tray self.old) { free = [] } }
         ensures used { live_used self.new ≡ at_of (seat_hold self.old.seat.now) }
         ensures lent { self.new.seat.ghost_name ≡ self.old.seat.ghost_name }
+        ensures kept { bond_of self.new.seat.now ≡ bond_of self.old.seat.now }
+        ensures met { (seat_listener self.new.seat.now).met ≡ (seat_listener self.old.seat.now).met }
+        ensures shared { self.new.shared.now ≡ self.old.shared.now }
     {
         self.seat.settle()
     }

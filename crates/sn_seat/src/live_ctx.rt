@@ -9,13 +9,14 @@ use sn_outside::Gate;
 use sn_pcap::RecordAt;
 
 impl<'a, G: Gate> Ctx for Live<'a, G> {
-    ghost use Rattle.sn_seat.specs.Trays.{captures_of, seat_tray, seat_used};
+    ghost use Rattle.sn_seat.specs.Lenders.{lent_as};
+    ghost use Rattle.sn_seat.specs.Trays.{bond_of, captures_of, seat_tray, seat_used};
 
     ghost tray = { λ live. seat_tray (captures_of live.shared.now) live.seat.now };
 
     ghost used = { λ live. seat_used live.seat.now };
 
-    ghost lender = { λ live. live.seat.ghost_name };
+    ghost lender = { λ live. lent_as live.seat.ghost_name (bond_of live.seat.now) };
 
     fn allocate(&mut self) -> Result<Option<u32>, Halt> {
         self.seat

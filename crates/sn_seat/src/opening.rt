@@ -118,8 +118,10 @@ impl Seat {
                 ends = wires (all_ends ends.tx.items ends.rx.items);
                 group = group.group;
                 channel = listener.channel;
+                met = listener.met;
               };
               captures = length roster.captures;
+              lanes = length roster.lanes;
             }) }
     {
         let ledger = Ledger::open(alloc, pool, ends, group, listener)?;

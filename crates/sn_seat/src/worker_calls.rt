@@ -31,6 +31,7 @@ impl Seat {
     ghost use Rattle.sn_app.specs.World.{packet_at};
     ghost use Rattle.sn_channel.specs.Ends.{last_said};
     ghost use Rattle.sn_seat.specs.GiveSteps.{given_answer, is_worn_gave, used_after};
+    ghost use Rattle.sn_seat.specs.Fitting.{met_again};
     ghost use Rattle.sn_seat.specs.declared.gave.Gave.TheVariants.{Worn};
     ghost use Rattle.sn_seat.specs.Notes.{IsPlain};
     ghost use Rattle.sn_seat.specs.Tellings.{seat_hold, seat_listener};
@@ -146,7 +147,8 @@ impl Seat {
         ensures tray { (captures : List (List ℕ)) → seat_tray captures self.new ≡ seat_tray captures self.old }
         ensures used { seat_used self.new ≡ seat_used self.old }
         ensures speaker { speaker.new ≡ speaker.old }
-        ensures kept { bond_of self.new ≡ bond_of self.old }
+        ensures kept { bond_of self.new ≡ met_again (last_said speaker.old.said) (bond_of self.old) }
+        ensures fits { Fits self.new shared.now }
     {
         let channel = &shared.channels[self.worker as usize];
         self.ledger.meet(channel, speaker);

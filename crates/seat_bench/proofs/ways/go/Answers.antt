@@ -1,5 +1,6 @@
 -- answers of src/ways.rt, go
 use Rattle.std.proofs.Common.{◌∙◌, ap}
+use Rattle.sn_seat.proofs.Lending.{same_name}
 use Rattle.seat_bench.proofs.Wiring.{receives_still, wired_still}
 use Rattle.seat_bench.proofs.ways.go.Goals as goal
 
@@ -24,6 +25,6 @@ loop-round-preserved c =
       sent = sent.wired;
       receives = receives_still gave.leaves.constants came.ready;
       came = wired_still gave.used came.wired;
-      lent = sent.lent ∙ before.lent;
-      other_lent = gave.lent ∙ (came.lent ∙ before.other_lent);
+      lent = same_name _ _ _ _ sent.lent ∙ before.lent;
+      other_lent = gave.lent ∙ (same_name _ _ _ _ came.lent ∙ before.other_lent);
     }

@@ -10,7 +10,7 @@ returns-clause-first c =
     let ends = all_transmitter c.in_ok-ends.ensures.tx c.in_ok-ends.ensures.rx in
     record {
       fits = one_fits _ 0 _ _ _ _ _ _ (0, Transmitter c.in_ok-half.half.tx) (bond_as seat.bond ends)
-          first.lane first.group first.channel first.captures;
+          first.lane first.group first.channel first.captures first.one;
       names = record { end = has_transmitter seat.has_end ends; apps = seat.apps; lanes = seat.lanes };
       none = seat.none;
     }
