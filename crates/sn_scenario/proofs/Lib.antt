@@ -6,6 +6,7 @@ pub mod KeySets
 pub mod LineBounds
 pub mod LineFronts
 pub mod LineSequence
+pub mod OwnEnds
 pub mod PlainSpelling
 pub mod PlanLaws
 pub mod PlanSteps

@@ -73,7 +73,7 @@ links_in p = p.config.links
 abbrev names_in : Placed → List (List ℕ)
 names_in p = keys_of p.config.apps
 
-value_at : (P : AppSpec → Type 0) (apps : List (List ℕ × AppSpec)) (name : List ℕ) (spec : AppSpec) → All P (values_of apps) → app_at apps name ≡ Some spec → P spec
+pub value_at : (P : AppSpec → Type 0) (apps : List (List ℕ × AppSpec)) (name : List ℕ) (spec : AppSpec) → All P (values_of apps) → app_at apps name ≡ Some spec → P spec
 value_at P [] name spec h t = cc
 value_at P (e ∷ apps) name spec h t = by (is_at (name_cmp name) e.0) t (value_at P apps name spec (λ k d within. h (suc k) d (omega arith)))
   where

@@ -13,8 +13,10 @@ use Rattle.sn_config.specs.declared.app_spec.AppSpec.{AppSpec}
 use Rattle.sn_names.specs.Rosters.{RosterRows}
 use Rattle.sn_scenario.specs.AppUses.{reads_file, receives_lane, transmits_lane, writes_file}
 use Rattle.sn_scenario.specs.ConfigLines.{no_config, of_worker}
+use Rattle.sn_scenario.specs.LaneEnds.{leads_from, leads_to}
 use Rattle.sn_scenario.specs.Plans.{change_of, configs_of, plan_of}
 use Rattle.sn_scenario.specs.Scenarios.{ScenarioForm}
+use Rattle.sn_scenario.specs.declared.lane.Lane.{Lane}
 use Rattle.sn_scenario.specs.declared.placed.Placed.{Placed}
 
 abbrev pub is_commit : Action → Bool
@@ -61,6 +63,17 @@ IsListed rows (NewLink link) = Contains rows.links link
 IsListed rows (LinkOutput link) = Contains rows.links link
 IsListed rows (LinkInput link) = Contains rows.links link
 IsListed rows Commit = Unit {0}
+
+-- an app receives from interlinks that lead to the worker, and transmits into those that lead from it
+pub record TakesOwnEnds (lanes : List Lane) (worker : ℕ) (spec : AppSpec) : Type 0 where
+  pub receives : (lane : List ℕ) → receives_lane spec lane ≡ true → leads_to lanes worker lane ≡ true
+  pub transmits : (lane : List ℕ) → transmits_lane spec lane ≡ true → leads_from lanes worker lane ≡ true
+
+-- an app that an action starts or gives a new argument takes ends of interlinks that are the worker's own
+abbrev pub UsesOwnEnds : List Lane → ℕ → Action → Type 0
+UsesOwnEnds lanes worker (StartApp name spec) = TakesOwnEnds lanes worker spec
+UsesOwnEnds lanes worker (ReconfigApp name spec) = TakesOwnEnds lanes worker spec
+UsesOwnEnds lanes worker _ = Unit {0}
 
 -- the law of the actions between two configurations, and what they name
 pub record IsChanged (before after : ConfigForm) : Type 0 where

@@ -3,7 +3,7 @@ ghost use Rattle.sn_actions.specs.PlainForms.{empty_form};
 ghost use Rattle.sn_actions.specs.Plains.{apply_all, full};
 ghost use Rattle.sn_config.specs.Configs.{IsConfig};
 ghost use Rattle.sn_scenario.specs.ConfigLines.{no_config, of_worker};
-ghost use Rattle.sn_scenario.specs.PlanLaws.{AreChanged, AreCounts, IsChanged, IsListed, committed_config, prefix_of};
+ghost use Rattle.sn_scenario.specs.PlanLaws.{AreChanged, AreCounts, IsChanged, IsListed, UsesOwnEnds, committed_config, prefix_of};
 ghost use Rattle.sn_scenario.specs.Plans.{change_of, due_after, due_of, plan_after, plan_of, roster_of};
 ghost use Rattle.sn_scenario.specs.Scenarios.{ArePlaced};
 ghost use Rattle.std.specs.Prelude.{All, IfOk, IsOk, Ok, OnOk, cond, count_by, filter, nat_le, take, ℕ, ◌&&◌, ◌++◌, ◌<◌, ◌≡◌, ◌≤◌};
@@ -100,6 +100,9 @@ impl Scenario {
 
         // What each names stands in the worker's roster, and each app has an argument of its class.
         ensures listed { OnOk result (All (IsListed (roster_of worker self.now)) (plan_of worker self.now)) }
+
+        // An app that is started or gets a new argument takes ends of interlinks that are this worker's.
+        ensures own_ends { OnOk result (All (UsesOwnEnds self.now.lanes worker) (plan_of worker self.now)) }
     {
         let actions = plan_from(alloc, &self.placed, worker)?;
         Ok(actions)
