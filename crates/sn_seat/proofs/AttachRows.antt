@@ -227,14 +227,14 @@ looked_on lane side u v r n f = record {
 
 -- THE WHOLE ROW
 
-bind_assoc : (m : Meaning Bool) (k : Bool → Meaning Bool) (o : Outcome Unit)
+bind_assoc : {S : Type 0} (m : Meaning Bool) (k : Bool → Meaning S) (o : Outcome Unit)
     → go_on (go_on o (λ x. m)) k ≡ go_on o (λ x. m >>= k)
 unfolding ◌>>=◌ go_on
 bind_assoc m k (done x d es) = refl
 bind_assoc m k (stopped d es) = refl
 bind_assoc m k (refused d es) = refl
 
-pub assoc_at : (gate : Meaning Unit) (m : Meaning Bool) (k : Bool → Meaning Bool) (d : Desk) (es : List Entry)
+pub assoc_at : {S : Type 0} (gate : Meaning Unit) (m : Meaning Bool) (k : Bool → Meaning S) (d : Desk) (es : List Entry)
     → ((gate >>= (λ x. m)) >>= k) d es ≡ (gate >>= (λ x. m >>= k)) d es
 unfolding ◌>>=◌
 assoc_at gate m k d es = bind_assoc m k (gate d es)

@@ -1,6 +1,6 @@
 -- The rows of hearing and of giving back, over a seat's trays.
 use Rattle.std.proofs.Common.{◌≡◌, ℕ, ◌+◌, ◌==◌, ◌∷◌, ◌∙◌, Bool, true, false, [], Some, Ok, Err}
-use Rattle.std.proofs.Common.{refl, sym, ap, subst}
+use Rattle.std.proofs.Common.{cond, refl, sym, ap, subst}
 use Rattle.std.proofs.lemmas.Bool.{and_from, eq-eqb}
 use Rattle.sn_journal.specs.HandOvers.{PacketName}
 use Rattle.sn_journal.specs.declared.entry.Entry.{Entry}
@@ -16,6 +16,7 @@ use Rattle.sn_app.proofs.OnTrays.{tray_bind, tray_fail, tray_pure}
 use Rattle.sn_app.proofs.Playing.{desk}
 use Rattle.sn_app.proofs.Readings.{answers_at}
 use Rattle.sn_seat.specs.GiveSteps.{gave_entry, is_done, is_worn_gave}
+use Rattle.sn_seat.specs.Settling.{a_given_back, fresh_given, gives_back, worn_given}
 use Rattle.sn_seat.specs.declared.gave.Gave.{Gave as GaveAnswer}
 use Rattle.sn_seat.specs.declared.gave.Gave.TheVariants as answer
 use Rattle.sn_seat.proofs.AttachRows.{assoc_at}
@@ -131,3 +132,40 @@ give_reads {t} {u} {v} packet answer.Done fresh gated none may not_worn now =
 give_reads {t} {u} {v} packet answer.Full fresh gated none may not_worn now =
     gate_then (name_of packet) false fresh gated (full_reads u v (name_of packet) (may (Full packet.number packet.turn)) now)
 give_reads packet answer.Worn fresh gated none may not_worn now = absurd cc
+
+-- IN A RECLAMATION
+
+back_told : (packet : PacketState) (gave : GaveAnswer) → is_worn_gave gave ≡ false
+    → fresh_given (name_of packet) (gave_entry packet gave) ≡ Some (is_done gave)
+back_told packet answer.Done fresh = rw (eq-eqb packet.number packet.number refl, eq-eqb (packet.turn + 1) (packet.turn + 1) refl)
+    refl
+back_told packet answer.Full fresh = rw (eq-eqb packet.number packet.number refl, eq-eqb packet.turn packet.turn refl) refl
+back_told packet answer.Worn fresh = absurd cc
+
+-- a packet that isn't worn
+pub back_reads : (u v : Tray) (packet : PacketState) (gave : GaveAnswer) → (packet.turn == highest_turn) ≡ false
+    → ((entry : Entry) → u.log.constants.may entry ≡ true) → is_worn_gave gave ≡ false → v ≡ after_entry (gave_entry packet gave) u
+    → OnTray (gives_back (name_of packet)) u v (Ok (is_done gave))
+unfolding gives_back
+back_reads u v packet gave fresh may not_worn now =
+    subst (λ z. OnTray (read (a_given_back (name_of packet))) u z (Ok (is_done gave))) (sym now)
+    (tray_read (a_given_back (name_of packet)) u (gave_entry packet gave) (is_done gave) told (may (gave_entry packet gave)))
+  where
+    told : a_given_back (name_of packet) (gave_entry packet gave) ≡ Some (is_done gave)
+    told =
+        ap (λ b. cond b (worn_given (name_of packet) (gave_entry packet gave)) (fresh_given (name_of packet)
+        (gave_entry packet gave))) fresh
+        ∙ back_told packet gave not_worn
+
+-- a worn packet
+pub worn_back_reads : (u v : Tray) (packet : PacketState) → (packet.turn == highest_turn) ≡ true
+    → u.log.constants.may (gave_entry packet answer.Worn) ≡ true → v ≡ after_entry (gave_entry packet answer.Worn) u
+    → OnTray (gives_back (name_of packet)) u v (Ok false)
+unfolding gives_back
+worn_back_reads u v packet is may now =
+    subst (λ z. OnTray (read (a_given_back (name_of packet))) u z (Ok false)) (sym now)
+    (tray_read (a_given_back (name_of packet)) u (gave_entry packet answer.Worn) false told may)
+  where
+    told : a_given_back (name_of packet) (gave_entry packet answer.Worn) ≡ Some false
+    told =
+        rw (is, eq-eqb packet.number packet.number refl, eq-eqb packet.turn packet.turn refl) refl

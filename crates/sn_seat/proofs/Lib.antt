@@ -10,8 +10,11 @@ mod LaneRows
 mod Links
 mod ClaimRows
 mod AttachRows
+pub mod Again
 mod DetachRows
 mod Opened
 mod GiveRows
+mod SettleRows
+mod FreeNames
 mod Outcomes
 pub mod Lending

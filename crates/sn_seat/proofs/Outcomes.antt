@@ -10,3 +10,8 @@ pub on_err_at : {T E : Type 0} (r : Result T E) (P : List (List ℕ) → Type 0)
     → OnErr r ((all : List (List ℕ)) → P all) → OnErr r (P captures)
 on_err_at (Ok x) P captures h = h
 on_err_at (Err e) P captures h = h captures
+
+-- what follows for the same outcome
+pub on_ok_then : {T E A B : Type 0} (r : Result T E) → (A → B) → OnOk r A → OnOk r B
+on_ok_then (Ok x) f h = f h
+on_ok_then (Err e) f h = h

@@ -17,4 +17,5 @@ pub mod AttachReads
 pub mod Openings
 pub mod Tellings
 pub mod GiveSteps
+pub mod Settling
 pub mod Lives

@@ -8,15 +8,15 @@ use sn_journal::Entry;
 use sn_outside::Gate;
 
 /// What is called before each step of a seat that others can see. It is a gate without what threads ask of it.
-pub(crate) trait Before {
+pub trait Before {
     /// Comes before the step of a worker's seat that follows so many entries and so many gates.
     fn before(&self, seat: u32, entries: u64, gates: u32);
 }
 
 /// A gate, as a seat calls it.
 #[derive(Clone, Copy)]
-pub(crate) struct Turnstile<'a, G: Gate> {
-    pub(crate) gate: &'a G,
+pub struct Turnstile<'a, G: Gate> {
+    pub gate: &'a G,
 }
 
 impl<'a, G: Gate> Before for Turnstile<'a, G> {

@@ -23,7 +23,7 @@ fn is_side(side: Side, other: Side) -> bool
 }
 
 /// The first place where an interlink's end of this side stands.
-fn find_end(ends: &Vec<(u32, SeatEnd)>, number: u32, side: Side) -> Option<usize>
+pub(crate) fn find_end(ends: &Vec<(u32, SeatEnd)>, number: u32, side: Side) -> Option<usize>
     ensures { result ≡ position (is_at number side) ends.now.items }
 {
     ends.iter()

@@ -5,8 +5,8 @@ use sn_group::{GiveClaim, Group};
 use sn_journal::Entry;
 
 impl Ledger {
-    ghost use Rattle.std.specs.Prelude.{◌≡◌, ◌≤◌, ◌∷◌, ◌++◌, [], IsSome, false};
-    ghost use Rattle.sn_packet.specs.Hold.{frees_of, used_of};
+    ghost use Rattle.std.specs.Prelude.{◌≡◌, ◌≢◌, ◌≤◌, ◌∷◌, ◌++◌, [], IsSome, false, ℕ};
+    ghost use Rattle.sn_packet.specs.Hold.{at_of, frees_of, used_of};
     ghost use Rattle.sn_packet.specs.Packet.{is_worn};
     ghost use Rattle.sn_app.specs.World.{packet_at};
     ghost use Rattle.sn_seat.specs.GiveSteps.{gave_entry, is_worn_gave, used_after};
@@ -22,6 +22,7 @@ impl Ledger {
         ensures entries { self.new.journal.entries
             ≡ self.old.journal.entries ++ gave_entry (packet_at (used_of self.old.hold) place) result ∷ [] }
         ensures used { used_of self.new.hold ≡ used_after place result (used_of self.old.hold) }
+        ensures held { (q : ℕ) → q ≢ place → at_of self.new.hold q ≡ at_of self.old.hold q }
         ensures frees { frees_of self.new.hold ≡ frees_of self.old.hold }
         ensures fresh { is_worn_gave result ≡ false }
         ensures ends { self.new.ends ≡ self.old.ends }

@@ -5,10 +5,11 @@ use sn_journal::Entry;
 use std::alloc::AllocError;
 
 impl Ledger {
-    ghost use Rattle.std.specs.Prelude.{◌≡◌, ◌≤◌, ◌∷◌, ◌++◌, [], OnOk};
-    ghost use Rattle.sn_channel.specs.Ends.{last_said};
+    ghost use Rattle.std.specs.Prelude.{◌≡◌, ◌≤◌, ◌∷◌, ◌++◌, [], All, OnOk};
+    ghost use Rattle.sn_channel.specs.Ends.{IsSaid, last_said};
     ghost use Rattle.sn_seat.specs.Ledgers.{SameBook, wiring_of};
     ghost use Rattle.sn_seat.specs.Notes.{IsPlain};
+    ghost use Rattle.sn_seat.specs.Told.{of_channel};
     ghost use Rattle.sn_journal.specs.declared.entry.Entry.TheVariants.{Hear};
 
     /// Makes room for one entry, beside the place for Stop.
@@ -48,6 +49,8 @@ impl Ledger {
     pub(crate) fn hear(&mut self, channel: &Channel) -> u64
         requires channel { self.old.listener.channel ≡ channel.now }
         requires room { 2 ≤ self.old.journal.room }
+        ensures met { self.old.listener.met ≤ result }
+        ensures rising { All (λ n. n ≤ result) (of_channel self.old.journal.entries) }
         ensures entries { self.new.journal.entries ≡ self.old.journal.entries ++ Hear result ∷ [] }
         ensures hold { self.new.hold ≡ self.old.hold }
         ensures ends { self.new.ends ≡ self.old.ends }
@@ -63,6 +66,8 @@ impl Ledger {
         requires listener { self.old.listener.channel ≡ channel.now }
         requires speaker { speaker.old.channel ≡ channel.now }
         ensures met { self.new.listener.met ≡ last_said speaker.old.said }
+        ensures among { All (IsSaid speaker.old.said) (of_channel self.old.journal.entries) }
+        ensures most { All (λ n. n ≤ last_said speaker.old.said) (of_channel self.old.journal.entries) }
         ensures journal { self.new.journal ≡ self.old.journal }
         ensures hold { self.new.hold ≡ self.old.hold }
         ensures ends { self.new.ends ≡ self.old.ends }

@@ -21,10 +21,12 @@ mod seat_end;
 mod seat_lanes;
 mod seat_packets;
 mod seat_rows;
+mod seat_settle;
 mod shared;
 mod worker_calls;
 
 pub use ends::Ends;
+pub use gates::{Before, Turnstile};
 pub use gave::Gave;
 pub use live::Live;
 pub use parts::SeatParts;

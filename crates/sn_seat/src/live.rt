@@ -21,6 +21,8 @@ pub struct Live<'a, G: Gate> {
 
 impl<'a, G: Gate> Live<'a, G> {
     ghost use Rattle.std.specs.Prelude.{◌≡◌, ◌≤◌, ◌<◌, [], IfNone, IfOk, IfSome, IsOk, IsSome, None, OnErr, OnOk, length, ℕ};
+    ghost use Rattle.std.specs.Prelude.{◌≢◌, ◌^◌, All, IfErr};
+    ghost use Rattle.sn_core.specs.declared.events.Side.{Side};
     ghost use Rattle.sn_packet.specs.Hold.{at_of};
     ghost use Rattle.sn_packet.specs.Packet.{is_worn};
     ghost use Rattle.sn_app.specs.Answers.{OnTray};
@@ -28,10 +30,14 @@ impl<'a, G: Gate> Live<'a, G> {
     ghost use Rattle.sn_app.specs.Desk.{after_entry, name_of};
     ghost use Rattle.sn_app.specs.Rows.{row_give, row_hear};
     ghost use Rattle.sn_app.specs.World.{packet_at};
-    ghost use Rattle.sn_seat.specs.GiveSteps.{given_answer, is_worn_gave, used_after};
+    ghost use Rattle.sn_app.specs.declared.end_state.EndState.TheVariants.{Out};
+    ghost use Rattle.sn_app.specs.declared.halt.Halt.TheVariants.{OutOfMemory};
+    ghost use Rattle.sn_seat.specs.GiveSteps.{gave_entry, given_answer, is_worn_gave, used_after};
     ghost use Rattle.sn_seat.specs.Lives.{live_tray, live_used};
     ghost use Rattle.sn_seat.specs.Notes.{IsPlain};
+    ghost use Rattle.sn_seat.specs.Settling.{LeavesFiles, as_halt, gives_back, settles_lanes};
     ghost use Rattle.sn_seat.specs.Tellings.{seat_hold, seat_listener};
+    ghost use Rattle.sn_seat.specs.Told.{of_channel};
     ghost use Rattle.sn_seat.specs.Trays.{bond_of};
 
     /// Adds an entry of the worker's own: a round, a breath, that the journal is at its limit, that the slot is closed, that a
@@ -76,6 +82,8 @@ impl<'a, G: Gate> Live<'a, G> {
     /// A stop, or want of memory.
     pub fn hear(&mut self) -> Result<u64, Halt>
         ensures reads { OnTray row_hear (live_tray self.old) (live_tray self.new) result }
+        ensures heard { IfOk result (λ n. (seat_listener self.old.seat.now).met ≤ n) }
+        ensures rising { IfOk result (λ n. All (λ m. m ≤ n) (of_channel (live_tray self.old).log.past)) }
         ensures used { live_used self.new ≡ live_used self.old }
         ensures leaves { LeavesEnds (live_tray self.old) (live_tray self.new) }
         ensures lent { self.new.seat.ghost_name ≡ self.old.seat.ghost_name }
@@ -97,6 +105,9 @@ impl<'a, G: Gate> Live<'a, G> {
             (live_tray self.new) (given_answer result) }
         ensures worn { IfOk result (λ gave. is_worn (packet_at (live_used self.old) place) ≡ is_worn_gave gave) }
         ensures used { IfOk result (λ gave. live_used self.new ≡ used_after place gave (live_used self.old)) }
+        ensures refused { OnErr result (live_used self.new ≡ live_used self.old) }
+        ensures held { (q : ℕ) → q ≢ place
+            → at_of (seat_hold self.new.seat.now) q ≡ at_of (seat_hold self.old.seat.now) q }
         ensures leaves { LeavesEnds (live_tray self.old) (live_tray self.new) }
         ensures lent { self.new.seat.ghost_name ≡ self.old.seat.ghost_name }
         ensures kept { bond_of self.new.seat.now ≡ bond_of self.old.seat.now }
@@ -121,5 +132,51 @@ impl<'a, G: Gate> Live<'a, G> {
         ensures shared { self.new.shared.now ≡ self.old.shared.now }
     {
         self.seat.settle()
+    }
+
+    /// Settles each end of the seat: one that is up goes, and one that closes already goes on with its closing. All are out then.
+    /// What is drained stays held, and isn't free. No gate stands in it.
+    ///
+    /// # Errors
+    /// Want of memory.
+    pub fn settle_lanes(&mut self) -> Result<(), Halt>
+        requires none { (live_tray self.old).free ≡ [] }
+        ensures reads { OnTray settles_lanes (live_tray self.old) (live_tray self.new) result }
+        ensures memory { IfErr result (λ halt. halt ≡ OutOfMemory) }
+        ensures out { OnOk result ((lane : ℕ) (side : Side) → ((live_tray self.new).ends lane side).state ≡ Out) }
+        ensures none { (live_tray self.new).free ≡ [] }
+        ensures used { live_used self.new ≡ at_of (seat_hold self.new.seat.now) }
+        ensures leaves { LeavesFiles (live_tray self.old) (live_tray self.new) }
+        ensures lent { self.new.seat.ghost_name ≡ self.old.seat.ghost_name }
+        ensures kept { bond_of self.new.seat.now ≡ bond_of self.old.seat.now }
+        ensures met { (seat_listener self.new.seat.now).met ≡ (seat_listener self.old.seat.now).met }
+        ensures shared { self.new.shared.now ≡ self.old.shared.now }
+    {
+        self.seat.settle_lanes(self.shared)
+    }
+
+    /// Gives the packet at a place to the group in a reclamation, where no gate stands. Where the group has no room, or the packet
+    /// is worn, it stays held at the same place, and isn't free.
+    ///
+    /// # Errors
+    /// Want of memory.
+    pub fn give_back(&mut self, place: u32) -> Result<Gave, AllocError>
+        requires { IsSome (live_used self.old place) }
+        ensures reads { OnTray (gives_back (name_of (packet_at (live_used self.old) place))) (live_tray self.old)
+            (live_tray self.new) (given_answer (as_halt result)) }
+        ensures noted { IfOk result (λ gave. live_tray self.new
+            ≡ after_entry (gave_entry (packet_at (live_used self.old) place) gave) (live_tray self.old)) }
+        ensures worn { IfOk result (λ gave. is_worn (packet_at (live_used self.old) place) ≡ is_worn_gave gave) }
+        ensures used { IfOk result (λ gave. live_used self.new ≡ used_after place gave (live_used self.old)) }
+        ensures refused { OnErr result (live_used self.new ≡ live_used self.old) }
+        ensures held { (q : ℕ) → q ≢ place
+            → at_of (seat_hold self.new.seat.now) q ≡ at_of (seat_hold self.old.seat.now) q }
+        ensures leaves { LeavesEnds (live_tray self.old) (live_tray self.new) }
+        ensures lent { self.new.seat.ghost_name ≡ self.old.seat.ghost_name }
+        ensures kept { bond_of self.new.seat.now ≡ bond_of self.old.seat.now }
+        ensures met { (seat_listener self.new.seat.now).met ≡ (seat_listener self.old.seat.now).met }
+        ensures shared { self.new.shared.now ≡ self.old.shared.now }
+    {
+        self.seat.give_back(self.shared, place)
     }
 }

@@ -9,7 +9,13 @@ use sn_outside::Gate;
 use sn_pcap::RecordAt;
 
 impl<'a, G: Gate> Ctx for Live<'a, G> {
+    ghost use Rattle.std.specs.Prelude.{◌≡◌, IsSome, None};
+    ghost use Rattle.sn_packet.specs.Hold.{at_of, put_at};
+    ghost use Rattle.sn_app.specs.Desk.{freed, name_of};
+    ghost use Rattle.sn_app.specs.World.{packet_at};
     ghost use Rattle.sn_seat.specs.Lenders.{lent_as};
+    ghost use Rattle.sn_seat.specs.Lives.{live_tray, live_used};
+    ghost use Rattle.sn_seat.specs.Tellings.{seat_hold};
     ghost use Rattle.sn_seat.specs.Trays.{bond_of, captures_of, seat_tray, seat_used};
 
     ghost tray = { λ live. seat_tray (captures_of live.shared.now) live.seat.now };
@@ -23,7 +29,17 @@ impl<'a, G: Gate> Ctx for Live<'a, G> {
             .allocate(self.shared, &Turnstile { gate: self.gate })
     }
 
-    fn free(&mut self, place: u32) {
+    fn free(&mut self, place: u32)
+        requires { IsSome (live_used self.old place) }
+        ensures tray { live_tray self.new ≡ freed (name_of (packet_at (live_used self.old) place)) (live_tray self.old) }
+        ensures used { live_used self.new ≡ put_at place None (live_used self.old) }
+        ensures held { at_of (seat_hold self.new.seat.now) ≡ at_of (seat_hold self.old.seat.now) }
+        ensures lent { lent_as self.new.seat.ghost_name (bond_of self.new.seat.now)
+            ≡ lent_as self.old.seat.ghost_name (bond_of self.old.seat.now) }
+        ensures name { self.new.seat.ghost_name ≡ self.old.seat.ghost_name }
+        ensures kept { bond_of self.new.seat.now ≡ bond_of self.old.seat.now }
+        ensures shared { self.new.shared.now ≡ self.old.shared.now }
+    {
         self.seat.free(place);
     }
 

@@ -10,10 +10,12 @@ const MOST_REFILLED: u32 = 64;
 
 impl Seat {
     ghost use Rattle.std.specs.Prelude.{◌≡◌, ◌≢◌, ◌≤◌, IfOk, IfSome, IsSome, List, None, Ok, OnOk, Some, length, ℕ};
+    ghost use Rattle.sn_packet.specs.Hold.{at_of};
     ghost use Rattle.sn_app.specs.Answers.{OnTray};
     ghost use Rattle.sn_app.specs.Calls.{IsFresh, LeavesEnds, named};
     ghost use Rattle.sn_app.specs.Rows.{refill, refill_one, refill_where, row_allocate, take_last};
     ghost use Rattle.sn_seat.specs.ClaimReads.{ClaimRead};
+    ghost use Rattle.sn_seat.specs.Tellings.{seat_hold};
     ghost use Rattle.sn_seat.specs.Trays.{Fits, bond_of, seat_tray, seat_used, tray_in};
 
     /// Makes room for a packet that comes.
@@ -21,6 +23,7 @@ impl Seat {
         ensures room { OnOk result (1 ≤ self.new.ledger.hold.room) }
         ensures tray { (captures : List (List ℕ)) → seat_tray captures self.new ≡ seat_tray captures self.old }
         ensures used { seat_used self.new ≡ seat_used self.old }
+        ensures held { at_of (seat_hold self.new) ≡ at_of (seat_hold self.old) }
         ensures ends { self.new.ledger.ends ≡ self.old.ledger.ends }
         ensures kept { bond_of self.new ≡ bond_of self.old }
     {

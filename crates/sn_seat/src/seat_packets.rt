@@ -3,19 +3,21 @@ use crate::seat::Seat;
 
 impl Seat {
     ghost use Rattle.std.specs.Prelude.{◌≡◌, ◌≤◌, IsSome, List, None, length, replicate, slice_get, take, ℕ};
-    ghost use Rattle.sn_packet.specs.Hold.{put_at};
+    ghost use Rattle.sn_packet.specs.Hold.{at_of, put_at};
     ghost use Rattle.sn_packet.specs.Packet.{is_worn, most_bytes};
     ghost use Rattle.sn_app.specs.Calls.{bytes_at, rewritten_at};
     ghost use Rattle.sn_app.specs.Desk.{freed, name_of};
     ghost use Rattle.sn_app.specs.World.{packet_at};
+    ghost use Rattle.sn_seat.specs.Tellings.{seat_hold};
     ghost use Rattle.sn_seat.specs.Trays.{bond_of, seat_tray, seat_used};
 
     /// The packet at a place becomes free.
-    pub(crate) fn free(&mut self, place: u32)
+    pub fn free(&mut self, place: u32)
         requires { IsSome (seat_used self.old place) }
         ensures tray { (captures : List (List ℕ)) → seat_tray captures self.new
             ≡ freed (name_of (packet_at (seat_used self.old) place)) (seat_tray captures self.old) }
         ensures used { seat_used self.new ≡ put_at place None (seat_used self.old) }
+        ensures held { at_of (seat_hold self.new) ≡ at_of (seat_hold self.old) }
         ensures kept { bond_of self.new ≡ bond_of self.old }
     {
         self.ledger.hold.free(place);

@@ -20,8 +20,7 @@ fn channel_of(shared: &Shared, worker: u32) -> &Channel
 
 impl Seat {
     ghost use Rattle.std.specs.Prelude.{◌≡◌, ◌≤◌, ◌<◌, [], IfNone, IfOk, IfSome, IsOk, IsSome, List, true, None, OnErr, OnOk, Some};
-    ghost use Rattle.std.specs.Prelude.{length};
-    ghost use Rattle.std.specs.Prelude.{slice_get, ℕ};
+    ghost use Rattle.std.specs.Prelude.{◌≢◌, ◌^◌, All, length, slice_get, ℕ};
     ghost use Rattle.sn_packet.specs.Hold.{at_of};
     ghost use Rattle.sn_packet.specs.Packet.{is_worn};
     ghost use Rattle.sn_app.specs.Answers.{OnTray};
@@ -29,21 +28,27 @@ impl Seat {
     ghost use Rattle.sn_app.specs.Desk.{after_entry, name_of};
     ghost use Rattle.sn_app.specs.Rows.{row_give, row_hear};
     ghost use Rattle.sn_app.specs.World.{packet_at};
-    ghost use Rattle.sn_channel.specs.Ends.{last_said};
-    ghost use Rattle.sn_seat.specs.GiveSteps.{given_answer, is_worn_gave, used_after};
+    ghost use Rattle.sn_channel.specs.Ends.{IsSaid, last_said};
+    ghost use Rattle.sn_seat.specs.GiveSteps.{gave_entry, given_answer, is_worn_gave, used_after};
     ghost use Rattle.sn_seat.specs.Fitting.{met_again};
     ghost use Rattle.sn_seat.specs.declared.gave.Gave.TheVariants.{Worn};
     ghost use Rattle.sn_seat.specs.Notes.{IsPlain};
+    ghost use Rattle.sn_seat.specs.Settling.{as_halt, gives_back};
     ghost use Rattle.sn_seat.specs.Tellings.{seat_hold, seat_listener};
+    ghost use Rattle.sn_seat.specs.Told.{of_channel};
     ghost use Rattle.sn_seat.specs.Trays.{Fits, bond_of, seat_tray, seat_used, tray_in};
 
     /// Adds an entry that tells of no shared object and of no packet.
-    pub(crate) fn note(&mut self, entry: Entry) -> Result<(), AllocError>
+    ///
+    /// # Errors
+    /// Want of memory, and nothing changes.
+    pub fn note(&mut self, entry: Entry) -> Result<(), AllocError>
         requires { IsPlain entry }
         ensures noted { OnOk result ((captures : List (List ℕ))
             → seat_tray captures self.new ≡ after_entry entry (seat_tray captures self.old)) }
         ensures refused { OnErr result ((captures : List (List ℕ)) → seat_tray captures self.new ≡ seat_tray captures self.old) }
         ensures used { seat_used self.new ≡ seat_used self.old }
+        ensures held { at_of (seat_hold self.new) ≡ at_of (seat_hold self.old) }
         ensures kept { bond_of self.new ≡ bond_of self.old }
     {
         self.ledger.reserve()?;
@@ -53,14 +58,14 @@ impl Seat {
     }
 
     /// How many packets are free.
-    pub(crate) fn frees(&self) -> u64
+    pub fn frees(&self) -> u64
         ensures { (captures : List (List ℕ)) → result ≡ length (seat_tray captures self.now).free }
     {
         self.ledger.hold.frees()
     }
 
     /// The least held place that isn't below `from`.
-    pub(crate) fn held(&self, from: u32) -> Option<u32>
+    pub fn held(&self, from: u32) -> Option<u32>
         ensures held { IfSome result (λ place. IsSome (at_of (seat_hold self.now) place)) }
         ensures from { IfSome result (λ place. from ≤ place) }
         ensures least { IfSome result (λ place.
@@ -71,9 +76,14 @@ impl Seat {
     }
 
     /// Hears how many actions are due.
-    pub(crate) fn hear<G: Before>(&mut self, shared: &Shared, gate: &G) -> Result<u64, Halt>
+    ///
+    /// # Errors
+    /// A stop, or want of memory.
+    pub fn hear<G: Before>(&mut self, shared: &Shared, gate: &G) -> Result<u64, Halt>
         requires fits { Fits self.old shared.now }
         ensures reads { OnTray row_hear (tray_in shared.now self.old) (tray_in shared.now self.new) result }
+        ensures met { IfOk result (λ n. (seat_listener self.old).met ≤ n) }
+        ensures rising { IfOk result (λ n. All (λ m. m ≤ n) (of_channel (tray_in shared.now self.old).log.past)) }
         ensures used { seat_used self.new ≡ seat_used self.old }
         ensures leaves { LeavesEnds (tray_in shared.now self.old) (tray_in shared.now self.new) }
         ensures kept { bond_of self.new ≡ bond_of self.old }
@@ -84,6 +94,21 @@ impl Seat {
         Ok(due)
     }
 
+    /// Notes that the packet at a place is worn.
+    fn note_worn(&mut self, place: u32) -> Result<(), AllocError>
+        requires place { IsSome (seat_used self.old place) }
+        ensures noted { OnOk result ((captures : List (List ℕ)) → seat_tray captures self.new
+            ≡ after_entry (gave_entry (packet_at (seat_used self.old) place) Worn) (seat_tray captures self.old)) }
+        ensures refused { OnErr result ((captures : List (List ℕ)) → seat_tray captures self.new ≡ seat_tray captures self.old) }
+        ensures used { seat_used self.new ≡ seat_used self.old }
+        ensures held { at_of (seat_hold self.new) ≡ at_of (seat_hold self.old) }
+        ensures kept { bond_of self.new ≡ bond_of self.old }
+    {
+        let packet = self.ledger.hold.packet(place);
+        let entry = Entry::Worn(packet.number(), packet.turn());
+        self.note(entry)
+    }
+
     /// A worn packet stays held, and that is noted.
     fn keep_worn(&mut self, place: u32) -> Result<Gave, Halt>
         requires place { IsSome (seat_used self.old place) }
@@ -92,28 +117,28 @@ impl Seat {
             (seat_tray captures self.old) (seat_tray captures self.new) (given_answer result) }
         ensures answer { IfOk result (λ gave. gave ≡ Worn) }
         ensures used { seat_used self.new ≡ seat_used self.old }
+        ensures held { at_of (seat_hold self.new) ≡ at_of (seat_hold self.old) }
         ensures leaves { (captures : List (List ℕ)) → LeavesEnds (seat_tray captures self.old) (seat_tray captures self.new) }
         ensures kept { bond_of self.new ≡ bond_of self.old }
     {
-        let packet = self.ledger.hold.packet(place);
-        let entry = Entry::Worn(packet.number(), packet.turn());
-        self.note(entry)?;
+        self.note_worn(place)?;
         Ok(Gave::Worn)
     }
 
-    /// Gives the packet at a place to the group.
-    pub(crate) fn give<G: Before>(
-        &mut self,
-        shared: &Shared,
-        gate: &G,
-        place: u32,
-    ) -> Result<Gave, Halt>
+    /// Gives the packet at a place to the group. Where the group has no room, or the packet is worn, it stays held at the same
+    /// place, and isn't free.
+    ///
+    /// # Errors
+    /// A stop, or want of memory.
+    pub fn give<G: Before>(&mut self, shared: &Shared, gate: &G, place: u32) -> Result<Gave, Halt>
         requires fits { Fits self.old shared.now }
         requires place { IsSome (seat_used self.old place) }
         ensures reads { OnTray (row_give (name_of (packet_at (seat_used self.old) place)))
             (tray_in shared.now self.old) (tray_in shared.now self.new) (given_answer result) }
         ensures worn { IfOk result (λ gave. is_worn (packet_at (seat_used self.old) place) ≡ is_worn_gave gave) }
         ensures used { IfOk result (λ gave. seat_used self.new ≡ used_after place gave (seat_used self.old)) }
+        ensures refused { OnErr result (seat_used self.new ≡ seat_used self.old) }
+        ensures held { (q : ℕ) → q ≢ place → at_of (seat_hold self.new) q ≡ at_of (seat_hold self.old) q }
         ensures leaves { LeavesEnds (tray_in shared.now self.old) (tray_in shared.now self.new) }
         ensures kept { bond_of self.new ≡ bond_of self.old }
     {
@@ -127,8 +152,40 @@ impl Seat {
         Ok(gave)
     }
 
+    /// Gives the packet at a place to the group in a reclamation, where no gate stands. Where the group has no room, or the packet
+    /// is worn, it stays held at the same place, and isn't free.
+    ///
+    /// # Errors
+    /// Want of memory.
+    pub fn give_back(&mut self, shared: &Shared, place: u32) -> Result<Gave, AllocError>
+        requires fits { Fits self.old shared.now }
+        requires place { IsSome (seat_used self.old place) }
+        ensures reads { OnTray (gives_back (name_of (packet_at (seat_used self.old) place)))
+            (tray_in shared.now self.old) (tray_in shared.now self.new) (given_answer (as_halt result)) }
+        ensures noted { IfOk result (λ gave. tray_in shared.now self.new
+            ≡ after_entry (gave_entry (packet_at (seat_used self.old) place) gave) (tray_in shared.now self.old)) }
+        ensures worn { IfOk result (λ gave. is_worn (packet_at (seat_used self.old) place) ≡ is_worn_gave gave) }
+        ensures used { IfOk result (λ gave. seat_used self.new ≡ used_after place gave (seat_used self.old)) }
+        ensures refused { OnErr result (seat_used self.new ≡ seat_used self.old) }
+        ensures held { (q : ℕ) → q ≢ place → at_of (seat_hold self.new) q ≡ at_of (seat_hold self.old) q }
+        ensures leaves { LeavesEnds (tray_in shared.now self.old) (tray_in shared.now self.new) }
+        ensures kept { bond_of self.new ≡ bond_of self.old }
+    {
+        if self.worn(place) {
+            self.note_worn(place)?;
+            return Ok(Gave::Worn);
+        }
+        self.room_for_packet()?;
+        let gave = self.ledger.give(&shared.group, place);
+        self.gates = 0;
+        Ok(gave)
+    }
+
     /// No packet is free any more, and all stay held. Nothing is under way at the group between two calls.
-    pub(crate) fn settle(&mut self) -> Result<(), Halt>
+    ///
+    /// # Errors
+    /// None yet.
+    pub fn settle(&mut self) -> Result<(), Halt>
         ensures ok { IsOk result }
         ensures tray { (captures : List (List ℕ)) → seat_tray captures self.new ≡ record (seat_tray captures self.old)
             { free = [] } }
@@ -144,6 +201,10 @@ impl Seat {
         requires fits { Fits self.old shared.now }
         requires speaker { slice_get shared.now.channels.items (bond_of self.old).worker ≡ Some speaker.old.channel }
         ensures met { (seat_listener self.new).met ≡ last_said speaker.old.said }
+        ensures among { (captures : List (List ℕ))
+            → All (IsSaid speaker.old.said) (of_channel (seat_tray captures self.old).log.past) }
+        ensures most { (captures : List (List ℕ))
+            → All (λ n. n ≤ last_said speaker.old.said) (of_channel (seat_tray captures self.old).log.past) }
         ensures tray { (captures : List (List ℕ)) → seat_tray captures self.new ≡ seat_tray captures self.old }
         ensures used { seat_used self.new ≡ seat_used self.old }
         ensures speaker { speaker.new ≡ speaker.old }

@@ -1,6 +1,7 @@
-use Rattle.std.proofs.Common.{sym, ap, ◌∙◌, ◌∷◌, ◌++◌, ◌==◌, []}
+use Rattle.std.proofs.Common.{sym, ap, ◌≡◌, ◌∙◌, ◌∷◌, ◌++◌, ◌==◌, [], None}
 use Rattle.sn_group.specs.declared.entry.GroupEntry.TheVariants as group
 use Rattle.sn_packet.specs.Hold.{among, at_of, used_of}
+use Rattle.sn_packet.proofs.Puts.{put_at_other}
 use Rattle.sn_app.proofs.Gaining.{used_held}
 use Rattle.sn_seat.proofs.PacketTelling.{back_in_place, raised_is, same_first, told_full, told_gave}
 use Rattle.sn_seat.proofs.ledger.Ledger.give.Goals as goal
@@ -41,3 +42,16 @@ returns-in-Full-clause-used c =
     c.in-Full.ensures.back
     (used_held (among h.free c.args.place == 0) (at_of h c.args.place) c.requires.place ∙ lift.ensures.packet)
     lift.ensures.used c.lay.ensures.used
+
+pub returns-in-Claimed-clause-held : goal.returns-in-Claimed-clause-held
+returns-in-Claimed-clause-held c = λ q differs.
+    ap (λ slots. slots q) c.lift-packet.ensures.at
+    ∙ put_at_other c.args.place None (at_of c.args.self.now.hold) q differs
+
+pub returns-in-Full-clause-held : goal.returns-in-Full-clause-held
+returns-in-Full-clause-held c = λ q differs.
+    let apart = λ (e : q ≡ c.lay.result). differs (e ∙ (c.lay.ensures.next ∙ c.lift-packet.ensures.next)) in
+    ap (λ slots. slots q) c.lay.ensures.at
+    ∙ (put_at_other c.lay.result _ (at_of c.lift-packet.new.self) q apart
+    ∙ (ap (λ slots. slots q) c.lift-packet.ensures.at
+    ∙ put_at_other c.args.place None (at_of c.args.self.now.hold) q differs))

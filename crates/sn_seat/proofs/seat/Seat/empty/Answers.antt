@@ -1,9 +1,10 @@
 use Rattle.std.proofs.Common.{◌≡◌, ◌∙◌, Err, Ok, refl, rules, subst}
 use Rattle.sn_app.specs.Answers.{OnTray}
-use Rattle.sn_app.specs.Gates.{working}
 use Rattle.sn_app.specs.Rows.{drain_one}
+use Rattle.sn_seat.specs.Settling.{phase_by}
 use Rattle.sn_seat.specs.Trays.{captures_of, seat_tray}
-use Rattle.sn_seat.proofs.DetachRows.{leaves_on, repeat_last, repeat_lost, repeats_more, repeats_start}
+use Rattle.sn_seat.proofs.Again.{repeat_last, repeat_lost, repeats_more, repeats_start}
+use Rattle.sn_seat.proofs.DetachRows.{leaves_on}
 use Rattle.sn_seat.proofs.LaneRows.{leaves_same}
 use Rattle.sn_seat.proofs.seat.Seat.empty.Goals as goal
 
@@ -12,7 +13,8 @@ loop-init c = record {
   repeats = repeats_start _ (seat_tray (captures_of c.args.shared.now) c.args.self.now);
   closing = c.requires.closing;
   loaded = c.requires.loaded;
-  used = refl;
+  used = λ on. refl;
+  frees = λ on. refl;
   leaves = leaves_same c.args.lane c.args.side _ _ refl;
   kept = refl;
 }
@@ -22,7 +24,7 @@ returns-in_err-drain-clause-reads c =
     let is : c.from_residual.result ≡ Err c.in_err-drain.field-0.0 = search rules in
     let e = c.in_err-drain.ensures in
     rw is (c.loop.invariant.repeats.ends _ (Err c.in_err-drain.field-0.0) e.memory
-    (repeat_lost (drain_one working c.args.lane c.args.side) e.memory e.reads))
+    (repeat_lost (drain_one (phase_by c.args.freeing) c.args.lane c.args.side) e.memory e.reads))
 
 pub returns-in_err-drain-clause-leaves : goal.returns-in_err-drain-clause-leaves
 returns-in_err-drain-clause-leaves c =
@@ -36,12 +38,13 @@ loop-preserved c =
     let came = c.if-branch.true in
     record {
       repeats = repeats_more before.repeats
-          (subst (λ b. OnTray (drain_one working c.args.lane c.args.side) (seat_tray caps c.loop.self)
+          (subst (λ b. OnTray (drain_one (phase_by c.args.freeing) c.args.lane c.args.side) (seat_tray caps c.loop.self)
           (seat_tray caps c.drain.new.self) (Ok b))
           came one.reads) one.one_more;
       closing = one.closing came;
       loaded = one.loaded came;
-      used = one.used ∙ before.used;
+      used = λ on. one.used on ∙ before.used on;
+      frees = λ on. one.frees on ∙ before.frees on;
       leaves = leaves_on c.args.lane c.args.side _ _ _ before.leaves one.leaves;
       kept = one.kept ∙ before.kept;
     }
@@ -49,7 +52,7 @@ loop-preserved c =
 pub returns-clause-reads : goal.returns-clause-reads
 returns-clause-reads c =
     let caps = captures_of c.args.shared.now in
-    let m = drain_one working c.args.lane c.args.side in
+    let m = drain_one (phase_by c.args.freeing) c.args.lane c.args.side in
     c.loop.invariant.repeats.ends _ (Ok tt) tt
     (repeat_last m (subst (λ b. OnTray m (seat_tray caps c.loop.self) (seat_tray caps c.drain.new.self) (Ok b)) c.if-branch.false
     c.in_ok-drain.ensures.reads))

@@ -1,5 +1,5 @@
 use Rattle.std.proofs.Common.{rules, refl, sym, ap, subst, ◌≡◌, ◌∙◌, ◌∷◌, ◌++◌, [], Err, Ok, IsSome}
-use Rattle.sn_packet.specs.Hold.{used_of}
+use Rattle.sn_packet.specs.Hold.{at_of, used_of}
 use Rattle.sn_packet.specs.Packet.{is_worn}
 use Rattle.sn_app.specs.Desk.{name_of}
 use Rattle.sn_app.specs.Rows.{row_give}
@@ -78,3 +78,18 @@ returns-clause-leaves g c =
     (ap (λ e. wires e.items) l.ends) l.entries refl l.frees (ap (λ e. ends_in e.items) l.ends) in
     rw (sym (c.room_for_one.ensures.tray caps))
     (leaves_then (leaves_gated caps c.room_for_one.new.self u (Ok tt) c.in_ok-gate.ensures.step) (leaves_noted _ _ _ now))
+
+pub returns-then-worn-clause-held : goal.returns-then-worn-clause-held
+returns-then-worn-clause-held g c = λ q differs. ap (λ slots. slots q) c.keep_worn.ensures.held
+
+pub returns-in_err-room_for_one-clause-held : goal.returns-in_err-room_for_one-clause-held
+returns-in_err-room_for_one-clause-held g c = λ q differs. ap (λ slots. slots q) c.room_for_one.ensures.held
+
+pub returns-in_err-gate-clause-held : goal.returns-in_err-gate-clause-held
+returns-in_err-gate-clause-held g c = λ q differs.
+    ap (λ hold. at_of hold q) c.gate.ensures.hold ∙ ap (λ slots. slots q) c.room_for_one.ensures.held
+
+pub returns-clause-held : goal.returns-clause-held
+returns-clause-held g c = λ q differs.
+    c.give-gave.ensures.held q differs
+    ∙ (ap (λ hold. at_of hold q) c.gate.ensures.hold ∙ ap (λ slots. slots q) c.room_for_one.ensures.held)

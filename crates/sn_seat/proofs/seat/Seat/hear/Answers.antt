@@ -1,8 +1,11 @@
-use Rattle.std.proofs.Common.{rules, refl, sym, ap, ◌≡◌, ◌∙◌, Err, Ok}
+use Rattle.std.proofs.Common.{rules, refl, subst, sym, ap, ◌≡◌, ◌≤◌, ◌∙◌, All, Err, Ok}
 use Rattle.std.proofs.lemmas.Option.{slice_get_within}
 use Rattle.sn_packet.specs.Hold.{frees_of}
+use Rattle.sn_app.specs.Desk.{Tray}
 use Rattle.sn_app.proofs.OnTrays.{leaves_then}
 use Rattle.sn_seat.specs.SeatEnds.{ends_in, wires}
+use Rattle.sn_seat.specs.Fitting.{Bond}
+use Rattle.sn_seat.specs.Told.{of_channel}
 use Rattle.sn_seat.specs.Trays.{bond_of, captures_of}
 use Rattle.sn_seat.proofs.ClaimRows.{leaves_gated, leaves_noted}
 use Rattle.sn_seat.proofs.EndLists.{some_same}
@@ -46,3 +49,12 @@ returns-clause-leaves g c =
     let now = tray_same u.stops.items u.roster caps _ _ _ _ 0 0 _ _ _ _ u.counters u.files.items
     (ap (λ e. wires e.items) l.ends) l.entries refl (ap frees_of l.hold) (ap (λ e. ends_in e.items) l.ends) in
     leaves_then (leaves_gated caps c.args.self.now u (Ok tt) c.in_ok-gate.ensures.step) (leaves_noted _ _ _ now)
+
+pub returns-clause-met : goal.returns-clause-met
+returns-clause-met g c =
+    subst (λ m. m ≤ c.hear-due.result) (ap (λ (b : Bond). b.wiring.met) c.gate.ensures.kept) c.hear-due.ensures.met
+
+pub returns-clause-rising : goal.returns-clause-rising
+returns-clause-rising g c =
+    subst (λ past. All (λ m. m ≤ c.hear-due.result) (of_channel past))
+    (ap (λ (t : Tray). t.log.past) (c.in_ok-gate.ensures.step.tray (captures_of c.args.shared.now))) c.hear-due.ensures.rising

@@ -1,9 +1,7 @@
-use Rattle.std.proofs.Common.{refl, sym, ap, ap₂, ◌≡◌, ◌∙◌}
-use Rattle.sn_journal.specs.declared.entry.Entry.TheVariants.{Worn}
-use Rattle.sn_app.specs.Desk.{after_entry, name_of}
+use Rattle.std.proofs.Common.{refl}
+use Rattle.sn_app.specs.Desk.{name_of}
 use Rattle.sn_app.specs.Rows.{row_give}
 use Rattle.sn_app.specs.World.{packet_at}
-use Rattle.sn_app.proofs.Gaining.{lifted}
 use Rattle.sn_app.proofs.OnTrays.{halt_lost}
 use Rattle.sn_seat.specs.Trays.{seat_tray, seat_used}
 use Rattle.sn_seat.proofs.ClaimRows.{leaves_noted, leaves_same}
@@ -11,26 +9,21 @@ use Rattle.sn_seat.proofs.GiveRows.{worn_reads}
 use Rattle.sn_seat.proofs.LaneRows.{lost_same}
 use Rattle.sn_seat.proofs.seat.Seat.keep_worn.Goals as goal
 
-pub returns-in_err-note-clause-reads : goal.returns-in_err-note-clause-reads
-returns-in_err-note-clause-reads c =
+pub returns-in_err-note_worn-clause-reads : goal.returns-in_err-note_worn-clause-reads
+returns-in_err-note_worn-clause-reads c =
     λ captures. rw (halt_lost c.from_residual.result c.from_residual.ensures.1)
     (lost_same (row_give (name_of (packet_at (seat_used c.args.self.now) c.args.place))) _ _
-    (c.in_err-note.ensures.refused captures))
+    (c.in_err-note_worn.ensures.refused captures))
 
-pub returns-in_err-note-clause-leaves : goal.returns-in_err-note-clause-leaves
-returns-in_err-note-clause-leaves c = λ captures. leaves_same _ _ (c.in_err-note.ensures.refused captures)
+pub returns-in_err-note_worn-clause-leaves : goal.returns-in_err-note_worn-clause-leaves
+returns-in_err-note_worn-clause-leaves c = λ captures. leaves_same _ _ (c.in_err-note_worn.ensures.refused captures)
 
 pub returns-clause-reads : goal.returns-clause-reads
 returns-clause-reads c =
     λ captures.
     let s = c.args.self.now in
-    let p = packet_at (seat_used s) c.args.place in
-    let is : p ≡ c.packet-packet.result.now = lifted s.ledger.hold c.args.place c.packet-packet.result.now c.requires.place
-    c.packet-packet.ensures in
-    let entry = ap₂ (λ m n. Worn m n) (c.number.ensures.value ∙ ap (λ q. q.number) (sym is))
-    (c.turn.ensures.value ∙ ap (λ q. q.turn) (sym is)) in
-    worn_reads (seat_tray captures s) _ (name_of p) c.requires.worn refl
-    (c.in_ok-note.ensures.noted captures ∙ ap (λ e. after_entry e (seat_tray captures s)) entry)
+    worn_reads (seat_tray captures s) _ (name_of (packet_at (seat_used s) c.args.place)) c.requires.worn refl
+    (c.in_ok-note_worn.ensures.noted captures)
 
 pub returns-clause-leaves : goal.returns-clause-leaves
-returns-clause-leaves c = λ captures. leaves_noted _ _ _ (c.in_ok-note.ensures.noted captures)
+returns-clause-leaves c = λ captures. leaves_noted _ _ _ (c.in_ok-note_worn.ensures.noted captures)
