@@ -1,0 +1,3 @@
+mod Givings
+mod Walking
+mod Attempting
