@@ -1,0 +1,10 @@
+mod Lists
+mod Yielded
+mod TakenEnds
+mod Emptying
+mod LaneTurns
+mod SeatTurns
+mod KeptTurns
+mod Wired
+mod Ending
+mod ToldEnds
