@@ -8,3 +8,8 @@ mod KeptTurns
 mod Wired
 mod Ending
 mod ToldEnds
+mod PoolTurns
+mod LaidTurns
+mod SeatedTurns
+mod NewEnds
+mod OpenedSeats

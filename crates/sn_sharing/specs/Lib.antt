@@ -4,3 +4,7 @@ pub mod LeftEnds
 pub mod Receipts
 pub mod Kept
 pub mod Closings
+pub mod Pools
+pub mod Laying
+pub mod Opened
+pub mod Seating
