@@ -1,6 +1,7 @@
 -- A hold whose packets are all free is emptied, and the names are listed.
 use Rattle.std.proofs.Common.{◌≡◌, ℕ, suc, ◌+◌, ◌==◌, true, cond, List, [], ◌∷◌, ◌++◌, Option, Some, None}
-use Rattle.std.proofs.Common.{get_or, map, reverse, subst, sum_by, Bool, false, unwrap_or, refl, sym, ap, ap₂, ◌∙◌, arith, append-nil, append_assoc}
+use Rattle.std.proofs.Common.{get_or, map, reverse, subst, sum_by, Bool, false, unwrap_or, refl, sym, ap, ap₂, ◌∙◌, arith}
+use Rattle.std.proofs.Common.{append-nil, append_assoc}
 use Rattle.std.proofs.lemmas.List.{map_push, reverse-append}
 use Rattle.std.proofs.lemmas.List.Sorted.{IsPermutation-reverse, IsPermutation-sym, IsPermutation-trans, sum_by-IsPermutation}
 use Rattle.std.proofs.lemmas.List.Sums.{sum_by-cons, sum_by_push}
@@ -88,7 +89,8 @@ pub sorted_names : (frees names sorted : List PacketName) → frees ≡ reverse 
     → IsPermutation frees sorted
 sorted_names frees names sorted e same =
     subst (λ l. IsPermutation l sorted) (sym e)
-    (IsPermutation-trans (reverse names) names sorted (IsPermutation-sym names (reverse names) (IsPermutation-reverse names)) same)
+    (IsPermutation-trans (reverse names) names sorted (IsPermutation-sym names (reverse names)
+    (IsPermutation-reverse names)) same)
 
 pub sorted_weight : (f : ℕ → ℕ → ℕ) (names sorted : List PacketName) → IsPermutation names sorted
     → journal.weight f sorted ≡ journal.weight f names

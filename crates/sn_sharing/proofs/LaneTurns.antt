@@ -24,7 +24,8 @@ still_out first now stays h = record {
 }
 
 -- So far: so many interlinks are closed, the ends of the others are as at first, and the receipts are those of the ends at first.
-pub record ClosedTo (lines : List Lane) (first now : List (List Numbered)) (ids : List LaneId) (receipts : List LaneReceipt) : Type 0 where
+pub record ClosedTo (lines : List Lane) (first now : List (List Numbered)) (ids : List LaneId) (receipts : List LaneReceipt)
+    : Type 0 where
   pub as_many : length receipts ≡ length ids
   pub later : (number worker : ℕ) → length receipts ≤ number → end_at number worker now ≡ end_at number worker first
   pub each : (number : ℕ) (receipt : LaneReceipt) → slice_get receipts number ≡ Some receipt
@@ -77,4 +78,5 @@ module _ (lines : List Lane) (first now : List (List Numbered)) (ids : List Lane
 
 pub all_closed : (lines : List Lane) (first now : List (List Numbered)) (ids : List LaneId) (receipts : List LaneReceipt)
     → ClosedTo lines first now ids receipts → AreReceipts lines first receipts
-all_closed lines first now ids receipts h = record { each = λ number lane receipt line there. h.each number receipt there lane line }
+all_closed lines first now ids receipts h = record { each = λ number lane receipt line there. h.each number receipt there lane
+    line }

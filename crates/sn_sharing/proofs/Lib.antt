@@ -13,3 +13,4 @@ mod LaidTurns
 mod SeatedTurns
 mod NewEnds
 mod OpenedSeats
+mod OpenedCloses

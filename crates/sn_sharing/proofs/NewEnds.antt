@@ -75,7 +75,8 @@ times_head : (side : Side) (number worker from : ℕ) (lane : Lane) (lanes : Lis
 times_head side number worker from lane lanes id ids = by (worker_on side lane == worker) (from == number) refl
   where
     by : (a b : Bool) → (from == number) ≡ b
-        → times_at number (map (kept_as side) (cond a ((from, new_lane_end id side) ∷ []) [] ++ new_ends side worker (from + 1) lanes ids))
+        → times_at number (map (kept_as side) (cond a ((from, new_lane_end id side) ∷ []) []
+        ++ new_ends side worker (from + 1) lanes ids))
         ≡ as_one (a && b) + times_on side number worker (from + 1) lanes ids
     by false b e =
         let zero_on : times_on side number worker (from + 1) lanes ids ≡ 0 + times_on side number worker (from + 1) lanes ids =
@@ -101,7 +102,8 @@ none_below side number worker from (lane ∷ lanes) (id ∷ ids) below =
     by (worker_on side lane == worker) (from == number) refl head rest
   where
     by : (a b : Bool) → (from == number) ≡ b
-        → times_on side number worker from (lane ∷ lanes) (id ∷ ids) ≡ as_one (a && b) + times_on side number worker (from + 1) lanes ids
+        → times_on side number worker from (lane ∷ lanes) (id ∷ ids)
+        ≡ as_one (a && b) + times_on side number worker (from + 1) lanes ids
         → times_on side number worker (from + 1) lanes ids ≡ 0 → times_on side number worker from (lane ∷ lanes) (id ∷ ids) ≡ 0
     by false b e head rest = omega (arith, head, rest)
     by true false e head rest = omega (arith, head, rest)
@@ -119,8 +121,10 @@ once_on number worker from (lane ∷ lanes) (id ∷ ids) apart =
     (none_below Tx number worker (from + 1) lanes ids) (none_below Rx number worker (from + 1) lanes ids)
   where
     by : (a b c : Bool) → (lane.tx == worker) ≡ a → (lane.rx == worker) ≡ b → (from == number) ≡ c
-        → times_on Tx number worker from (lane ∷ lanes) (id ∷ ids) ≡ as_one (a && c) + times_on Tx number worker (from + 1) lanes ids
-        → times_on Rx number worker from (lane ∷ lanes) (id ∷ ids) ≡ as_one (b && c) + times_on Rx number worker (from + 1) lanes ids
+        → times_on Tx number worker from (lane ∷ lanes) (id ∷ ids)
+        ≡ as_one (a && c) + times_on Tx number worker (from + 1) lanes ids
+        → times_on Rx number worker from (lane ∷ lanes) (id ∷ ids)
+        ≡ as_one (b && c) + times_on Rx number worker (from + 1) lanes ids
         → times_on Tx number worker (from + 1) lanes ids + times_on Rx number worker (from + 1) lanes ids ≤ 1
         → (number < from + 1 → times_on Tx number worker (from + 1) lanes ids ≡ 0)
         → (number < from + 1 → times_on Rx number worker (from + 1) lanes ids ≡ 0)
@@ -167,11 +171,13 @@ pub ends_new : (worker : ℕ) (lanes : List Lane) (ids : List LaneId) → Apart 
 ends_new worker lanes ids apart = record {
   once =
       λ number.
-      let two = times_two number (map as_transmitter (new_ends Tx worker 0 lanes ids)) (map as_receiver (new_ends Rx worker 0 lanes ids)) in
+      let two = times_two number (map as_transmitter (new_ends Tx worker 0 lanes ids)) (map as_receiver
+          (new_ends Rx worker 0 lanes ids)) in
       omega (arith, two, once_on number worker 0 lanes ids apart);
   each =
       λ k x there.
-      elim (in_either (map as_transmitter (new_ends Tx worker 0 lanes ids)) (map as_receiver (new_ends Rx worker 0 lanes ids)) k x there) [
+      elim (in_either (map as_transmitter (new_ends Tx worker 0 lanes ids)) (map as_receiver
+          (new_ends Rx worker 0 lanes ids)) k x there) [
         | inl tx ↦
             let row = from_row as_transmitter (new_ends Tx worker 0 lanes ids) k x tx in
             subst (λ (y : Numbered). end_in y.1 ≡ new_lane_end (end_in y.1).lane (side_in y.1)) row.is

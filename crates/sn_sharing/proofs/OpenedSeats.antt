@@ -1,6 +1,7 @@
 -- The seats that a run opens with.
 use Rattle.std.proofs.Common.{◌≡◌, ℕ, zero, suc, ◌+◌, ◌<◌, ◌==◌, ◌&&◌, ◌||◌, Bool, true, false, cond, List, [], ◌∷◌, ◌++◌}
-use Rattle.std.proofs.Common.{◌⊎◌, Option, Some, None, length, replicate, map, slice_get, refl, sym, ap, ap₂, ◌∙◌, subst, inl, inr, arith}
+use Rattle.std.proofs.Common.{◌⊎◌, Option, Some, None, length, replicate, map, slice_get, refl, sym, ap, ap₂, ◌∙◌, subst, inl}
+use Rattle.std.proofs.Common.{inr, arith}
 use Rattle.std.proofs.lemmas.Bool.{eq-eqb, eqb-true}
 use Rattle.std.proofs.lemmas.List.{length-map, map-id}
 use Rattle.std.proofs.lemmas.List.Folds.{list_any-append}
@@ -87,7 +88,8 @@ wired_on side s worker from (lane ∷ lanes) (id ∷ ids) (suc i) e =
     by true true d = absurd (let same = eqb-true from (from + suc i) d in omega (arith, same))
 
 either_side : (lane : Option Lane) (worker : ℕ) (side : Side)
-    → ((is_end_of lane worker Tx && same_side Tx side) || (is_end_of lane worker Rx && same_side Rx side)) ≡ is_end_of lane worker side
+    → ((is_end_of lane worker Tx && same_side Tx side) || (is_end_of lane worker Rx && same_side Rx side))
+    ≡ is_end_of lane worker side
 either_side None worker Tx = refl
 either_side None worker Rx = refl
 either_side (Some lane) worker Tx = by (lane.tx == worker) (lane.rx == worker)
@@ -134,7 +136,8 @@ wire_stands side worker from (lane ∷ lanes) [] k w there = absurd (let e : Non
 wire_stands side worker from (lane ∷ lanes) (id ∷ ids) k w there =
     by (worker_on side lane == worker) k there (λ j e. wire_stands side worker (from + 1) lanes ids j w e)
   where
-    by : (b : Bool) (j : ℕ) → slice_get (cond b ((from, side, id) ∷ []) [] ++ wires_on side worker (from + 1) lanes ids) j ≡ Some w
+    by : (b : Bool) (j : ℕ)
+        → slice_get (cond b ((from, side, id) ∷ []) [] ++ wires_on side worker (from + 1) lanes ids) j ≡ Some w
         → ((i : ℕ) → slice_get (wires_on side worker (from + 1) lanes ids) i ≡ Some w → StandsAt (from + 1) ids w)
         → StandsAt from (id ∷ ids) w
     by false j e rest = stands_next from id ids w (rest j e)

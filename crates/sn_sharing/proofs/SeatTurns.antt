@@ -11,7 +11,8 @@ grown : {A B : Type 0} (f : A → B) (xs : List A) (x : A) (old new : List B) �
     → new ≡ map f (xs ++ x ∷ [])
 grown f xs x old new more e = more ∙ (ap (λ l. l ++ f x ∷ []) e ∙ sym (map_push f xs x))
 
-pub parts_more : (seats : List Seat) (a b : Apart) (seat : Seat) → AreParts seats a → Adds a seat b → AreParts (seats ++ seat ∷ []) b
+pub parts_more : (seats : List Seat) (a b : Apart) (seat : Seat) → AreParts seats a → Adds a seat b
+    → AreParts (seats ++ seat ∷ []) b
 parts_more seats a b seat h adds = record {
   journals = grown past_of seats seat _ _ adds.journals h.journals;
   counters = grown counters_of seats seat _ _ adds.counters h.counters;

@@ -36,7 +36,8 @@ module _ (form : ScenarioForm) (all : List Ends) (of : GroupId) (old new : Seate
   same_place = h.channels ∙ h.as_many
 
   -- a worker's seat, channel and ends are old ones, or those of the last
-  pub each_seated : (worker : ℕ) (seat : Seat) (channel : ChannelId) (e : Ends) → slice_get (old.seats.items ++ a.seat ∷ []) worker
+  pub each_seated : (worker : ℕ) (seat : Seat) (channel : ChannelId) (e : Ends)
+      → slice_get (old.seats.items ++ a.seat ∷ []) worker
       ≡ Some seat
       → slice_get (old.channels.items ++ a.channel ∷ []) worker ≡ Some channel → slice_get (all ++ ends ∷ []) worker ≡ Some e
       → IsSeatedWith form worker e of channel seat

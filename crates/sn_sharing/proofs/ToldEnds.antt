@@ -39,7 +39,8 @@ module _ (seats : List Seat) (told : (k : ℕ) (seat : Seat) → slice_get seats
       ap (of_lane number) (column_at past_of seats worker s.row [] s.there)
       ∙ (t.lanes number
       ∙ (log_of_end number (seat_ends s.row) (t.once number)
-      ∙ ap (map told_entry) (ap (λ ends. said (end_of number ends)) (sym (column_at seat_ends seats worker s.row [] s.there)) ∙ sym is)))
+      ∙ ap (map told_entry) (ap (λ ends. said (end_of number ends)) (sym (column_at seat_ends seats worker s.row [] s.there))
+      ∙ sym is)))
 
   -- the journals are the logs
   pub told_logs : (lanes : List Lane) (receipts : List LaneReceipt) (journals : List (List Entry)) (of : GroupReceipt)
@@ -75,7 +76,8 @@ module _ (seats : List Seat) (told : (k : ℕ) (seat : Seat) → slice_get seats
       (record { belongs = (bonds k row.row row.there).group_is; rests = (told k row.row row.there).quiet.pending }))
 
   -- what each worker received is what it gave and what is listed of it
-  pub told_held : (journals : List (List Entry)) (holds : List Held) (kept : List (List PacketName)) → journals ≡ map past_of seats
+  pub told_held : (journals : List (List Entry)) (holds : List Held) (kept : List (List PacketName))
+      → journals ≡ map past_of seats
       → holds ≡ map seat_hold seats → AreKeptBy holds kept → AreHeld journals kept
   told_held journals holds kept e g k = λ worker entries names there listed f.
       let row = from_row past_of seats worker entries (ap (λ js. slice_get js worker) (sym e) ∙ there) in

@@ -26,7 +26,8 @@ wire_end number [] = refl
 wire_end number (x ∷ ends) = by (x.0 == number) (wire_end number ends)
   where
     by : (b : Bool) → wire_first number (wires ends) ≡ wired_as (end_of number ends)
-        → cond {A = Option (Side × LaneId)} b (Some (side_in x.1, (end_in x.1).lane)) (wire_first number (wires ends)) ≡ wired_as (cond b (Some x.1) (end_of number ends))
+        → cond {A = Option (Side × LaneId)} b (Some (side_in x.1, (end_in x.1).lane)) (wire_first number (wires ends))
+        ≡ wired_as (cond b (Some x.1) (end_of number ends))
     by true rest = refl
     by false rest = rest
 
@@ -40,13 +41,15 @@ first_of_two number [] two = refl
 first_of_two number (w ∷ one) two = by (w.0 == number) (first_of_two number one two)
   where
     by : (b : Bool) → wire_first number (one ++ two) ≡ first_or (wire_first number one) (wire_first number two)
-        → cond {A = Option (Side × LaneId)} b (Some (w.1, w.2)) (wire_first number (one ++ two)) ≡ first_or (cond {A = Option (Side × LaneId)} b (Some (w.1, w.2)) (wire_first number one))
+        → cond {A = Option (Side × LaneId)} b (Some (w.1, w.2)) (wire_first number (one ++ two))
+        ≡ first_or (cond {A = Option (Side × LaneId)} b (Some (w.1, w.2)) (wire_first number one))
         (wire_first number two)
     by true rest = refl
     by false rest = rest
 
 one_wire : (b : Bool) (number from : ℕ) (side : Side) (id : LaneId) (ws : List Wire)
-    → wire_first number (cond b ((from, side, id) ∷ []) [] ++ ws) ≡ cond {A = Option (Side × LaneId)} (b && from == number) (Some (side, id)) (wire_first number ws)
+    → wire_first number (cond b ((from, side, id) ∷ []) [] ++ ws)
+    ≡ cond {A = Option (Side × LaneId)} (b && from == number) (Some (side, id)) (wire_first number ws)
 one_wire true number from side id ws = refl
 one_wire false number from side id ws = refl
 
@@ -69,17 +72,20 @@ none_above side worker number from (line ∷ lanes) (id ∷ ids) above =
 -- a worker's wires on a side have the number of an interlink exactly where the worker has that end of it
 pub wire_on : (side : Side) (worker from : ℕ) (lanes : List Lane) (ids : List LaneId) (i : ℕ) (line : Lane) (id : LaneId)
     → slice_get lanes i ≡ Some line → slice_get ids i ≡ Some id
-    → wire_first (from + i) (wires_on side worker from lanes ids) ≡ cond {A = Option (Side × LaneId)} (worker_on side line == worker) (Some (side, id)) None
+    → wire_first (from + i) (wires_on side worker from lanes ids)
+    ≡ cond {A = Option (Side × LaneId)} (worker_on side line == worker) (Some (side, id)) None
 wire_on side worker from [] ids i line id there at = absurd (let e : None ≡ Some line = there in cc)
 wire_on side worker from (l ∷ lanes) [] i line id there at = absurd (let e : None ≡ Some id = at in cc)
 wire_on side worker from (l ∷ lanes) (d ∷ ids) zero line id there at =
     let same : l ≡ line = let e : Some l ≡ Some line = there in cc in
     let one : d ≡ id = let e : Some d ≡ Some id = at in cc in
     one_wire (worker_on side l == worker) (from + 0) from side d (wires_on side worker (from + 1) lanes ids)
-    ∙ (ap₂ (λ b n. cond {A = Option (Side × LaneId)} ((worker_on side l == worker) && b) (Some (side, d)) n) (eq-eqb from (from + 0) (omega arith))
+    ∙ (ap₂ (λ b n. cond {A = Option (Side × LaneId)} ((worker_on side l == worker) && b) (Some (side, d)) n) (eq-eqb from
+    (from + 0) (omega arith))
     (none_above side worker (from + 0) (from + 1) lanes ids (omega arith))
     ∙ (and_true (worker_on side l == worker)
-    ∙ ap₂ (λ (x : Lane) (y : LaneId). cond {A = Option (Side × LaneId)} (worker_on side x == worker) (Some (side, y)) None) same one))
+    ∙ ap₂ (λ (x : Lane) (y : LaneId). cond {A = Option (Side × LaneId)} (worker_on side x == worker) (Some
+    (side, y)) None) same one))
   where
     and_true : (b : Bool) → cond {A = Option (Side × LaneId)} (b && true) (Some (side, d)) None
         ≡ cond {A = Option (Side × LaneId)} b (Some (side, d)) None
@@ -95,7 +101,8 @@ wire_on side worker from (l ∷ lanes) (d ∷ ids) (suc i) line id there at =
     more m n = omega arith
 
     by : (a b : Bool) → (from == from + suc i) ≡ b
-        → cond {A = Option (Side × LaneId)} (a && b) (Some (side, d)) (wire_first (from + suc i) (wires_on side worker (from + 1) lanes ids))
+        → cond {A = Option (Side × LaneId)} (a && b) (Some (side, d)) (wire_first (from + suc i) (wires_on side worker
+        (from + 1) lanes ids))
         ≡ wire_first (from + suc i) (wires_on side worker (from + 1) lanes ids)
     by false b e = refl
     by true false e = refl

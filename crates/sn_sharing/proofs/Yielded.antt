@@ -15,7 +15,8 @@ all_yielded all s t u xs r items len so_far none step =
     sym (map-id xs) ∙ (YieldsList-end (YieldsList-from_vec all items len) xs t so_far r u none step).0
 
 -- the next item is the one behind those that it went over
-pub next_there : {A Z : Type 0} (all : List A) (s t u : IntoIter A Z) (xs : List A) (r : Option A) (x : A) → into_iter_items s ≡ all
+pub next_there : {A Z : Type 0} (all : List A) (s t u : IntoIter A Z) (xs : List A) (r : Option A) (x : A)
+    → into_iter_items s ≡ all
     → into_iter_len s ≡ length all → Yields into_iter_steps s xs t → r ≡ Some x → into_iter_steps t r u
     → slice_get all (length xs) ≡ Some x
 next_there all s t u xs r x items len so_far some step =

@@ -46,7 +46,8 @@ pub record TellLane (journals : List (List Entry)) (number : ℕ) (lane : Lane) 
 
 -- The journals are the logs: an interlink's entries are the two logs of its receipt, and those of the group are the logs of the
 -- group's receipt.
-pub record AreLogs (journals : List (List Entry)) (lanes : List Lane) (receipts : List LaneReceipt) (of : GroupReceipt) : Type 0 where
+pub record AreLogs (journals : List (List Entry)) (lanes : List Lane) (receipts : List LaneReceipt) (of : GroupReceipt)
+    : Type 0 where
   pub as_many : length receipts ≡ length lanes
   pub each : (number : ℕ) (lane : Lane) (receipt : LaneReceipt) → slice_get lanes number ≡ Some lane
       → slice_get receipts number ≡ Some receipt → TellLane journals number lane receipt

@@ -1,5 +1,6 @@
 -- What a run of a scenario opens with.
-use Rattle.std.specs.Prelude.{ℕ, ◌==◌, ◌≡◌, Bool, true, false, List, [], Option, Some, None, filter, length, map, replicate, slice_get}
+use Rattle.std.specs.Prelude.{ℕ, ◌==◌, ◌≡◌, Bool, true, false, List, [], Option, Some, None, filter, length, map, replicate}
+use Rattle.std.specs.Prelude.{slice_get}
 use Rattle.sn_app.specs.Desk.{Tray, nothing, out_end}
 use Rattle.sn_channel.specs.Ends.{ChannelId, SpeakerLog}
 use Rattle.sn_core.specs.declared.events.Side.{Side}
@@ -33,8 +34,8 @@ stop_pair stop = (stop.entries, stop.gates)
 abbrev pub stops_of : ℕ → List StopLine → List (ℕ × ℕ)
 stops_of worker stops = map stop_pair (filter (is_stop_of worker) stops)
 
--- The tray that a worker opens with: no entry, no packet, each of its ends out, nothing counted and no file started. Any entry may
--- come, and none from a script.
+-- The tray that a worker opens with: no entry, no packet, each of its ends out, nothing counted and no file started. Any entry
+-- may come, and none from a script.
 abbrev pub opening_tray : ScenarioForm → List (List ℕ) → ℕ → Tray
 opening_tray form captures worker = record {
   log = record {
@@ -56,8 +57,8 @@ opening_tray form captures worker = record {
   files = replicate (length form.outputs) None;
 }
 
--- a worker's seat that opens: its tray, that it holds no packet, that it is one of these shared objects, and where it belongs; its
--- listener never met its speaker
+-- A worker's seat that opens: its tray, that it holds no packet, that it is one of these shared objects, and where it belongs.
+-- Its listener never met its speaker.
 pub record IsOpenedSeat (form : ScenarioForm) (shared : Shared) (worker : ℕ) (seat : Seat) : Type 0 where
   pub tray : (captures : List (List ℕ)) → seat_tray captures seat ≡ opening_tray form captures worker
   pub used : (place : ℕ) → seat_used seat place ≡ None

@@ -29,7 +29,8 @@ new_bond form worker ends of channel = record {
 }
 
 -- the seat of a worker that opens with these
-pub record IsSeatedWith (form : ScenarioForm) (worker : ℕ) (ends : Ends) (of : GroupId) (channel : ChannelId) (seat : Seat) : Type 0 where
+pub record IsSeatedWith (form : ScenarioForm) (worker : ℕ) (ends : Ends) (of : GroupId) (channel : ChannelId) (seat : Seat)
+    : Type 0 where
   pub tray : (captures : List (List ℕ)) → seat_tray captures seat
       ≡ new_tray (stops_of worker form.stops) (roster_of worker form) captures (all_ends ends.tx.items ends.rx.items)
   pub used : (place : ℕ) → seat_used seat place ≡ None
