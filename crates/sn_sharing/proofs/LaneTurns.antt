@@ -78,5 +78,7 @@ module _ (lines : List Lane) (first now : List (List Numbered)) (ids : List Lane
 
 pub all_closed : (lines : List Lane) (first now : List (List Numbered)) (ids : List LaneId) (receipts : List LaneReceipt)
     → ClosedTo lines first now ids receipts → AreReceipts lines first receipts
-all_closed lines first now ids receipts h = record { each = λ number lane receipt line there. h.each number receipt there lane
-    line }
+all_closed lines first now ids receipts h = record {
+  each = λ number lane receipt line there. h.each number receipt there lane
+      line;
+}

@@ -172,12 +172,12 @@ ends_new worker lanes ids apart = record {
   once =
       λ number.
       let two = times_two number (map as_transmitter (new_ends Tx worker 0 lanes ids)) (map as_receiver
-          (new_ends Rx worker 0 lanes ids)) in
+      (new_ends Rx worker 0 lanes ids)) in
       omega (arith, two, once_on number worker 0 lanes ids apart);
   each =
       λ k x there.
       elim (in_either (map as_transmitter (new_ends Tx worker 0 lanes ids)) (map as_receiver
-          (new_ends Rx worker 0 lanes ids)) k x there) [
+      (new_ends Rx worker 0 lanes ids)) k x there) [
         | inl tx ↦
             let row = from_row as_transmitter (new_ends Tx worker 0 lanes ids) k x tx in
             subst (λ (y : Numbered). end_in y.1 ≡ new_lane_end (end_in y.1).lane (side_in y.1)) row.is

@@ -1,5 +1,5 @@
 -- Seats that open may close.
-use Rattle.std.proofs.Common.{◌≡◌, ℕ, List, ap}
+use Rattle.std.proofs.Common.{List, ap}
 use Rattle.sn_app.specs.Desk.{Tray}
 use Rattle.sn_scenario.specs.Scenarios.{ScenarioForm}
 use Rattle.sn_seat.specs.Trays.{no_captures}

@@ -7,7 +7,8 @@ use std::alloc::Global;
 use std::test::Fail;
 
 /// Three workers over two interlinks.
-const TEXT: &[u8] = b"scenario 1\npool 5\nworkers 3\ninterlink x 0 1\ninterlink y 2 0\nstop 1 7 2\n";
+const TEXT: &[u8] =
+    b"scenario 1\npool 5\nworkers 3\ninterlink x 0 1\ninterlink y 2 0\nstop 1 7 2\n";
 
 /// The scenario that a text spells.
 fn parsed(alloc: Global, text: &[u8]) -> Result<Scenario, Fail>

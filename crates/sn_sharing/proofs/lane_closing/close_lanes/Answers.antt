@@ -15,7 +15,7 @@ close_lane-requires c =
     let at : number ≡ length c.loop-lane.receipts.items = c.len-number.ensures ∙ c.loop-lane.receipts.ok.0 in
     let id : slice_get c.args.interlinks.items (length c.loop-lane.yielded) ≡ Some c.in-Some.lane =
     next_there c.args.interlinks.items c.into_iter-lane-iterator.result c.loop-lane.lane-iterator c.next.new.self
-        c.loop-lane.yielded
+    c.loop-lane.yielded
     c.next.result c.in-Some.lane from.0 (from.1 ∙ c.args.interlinks.ok.0) c.loop-lane.yielded_by c.in-Some.is c.next.ensures.steps
     in
     let few = slice_get_within c.args.interlinks.items (length c.loop-lane.yielded) c.in-Some.lane id in
@@ -35,7 +35,7 @@ loop-lane-preserved c =
     let at : number ≡ length c.loop-lane.receipts.items = c.len-number.ensures ∙ c.loop-lane.receipts.ok.0 in
     let id : slice_get c.args.interlinks.items (length c.loop-lane.yielded) ≡ Some c.in-Some.lane =
     next_there c.args.interlinks.items c.into_iter-lane-iterator.result c.loop-lane.lane-iterator c.next.new.self
-        c.loop-lane.yielded
+    c.loop-lane.yielded
     c.next.result c.in-Some.lane from.0 (from.1 ∙ c.args.interlinks.ok.0) c.loop-lane.yielded_by c.in-Some.is c.next.ensures.steps
     in
     let few = slice_get_within c.args.interlinks.items (length c.loop-lane.yielded) c.in-Some.lane id in
