@@ -15,6 +15,6 @@ mod Committed
 mod Empty
 mod Orderly
 mod Cut
-mod Counted
+pub mod Counted
 mod QueuedRows
 pub mod Noted

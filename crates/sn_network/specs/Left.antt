@@ -1,13 +1,15 @@
 -- What a network has left: the records that its readers haven't passed, and the packets in its links.
 use Rattle.std.specs.FinMap as finmap
-use Rattle.std.specs.Prelude.{ℕ, zero, suc, ◌+◌, ◌-◌, ◌^◌, ◌≡◌, List, Option, Some, None, length, min, slice_get, sum_by}
+use Rattle.std.specs.Prelude.{ℕ, zero, suc, ◌+◌, ◌-◌, ◌^◌, ◌≡◌, ◌≤◌, List, Option, Some, None, length, min, slice_get, sum_by}
 use Rattle.std.specs.Prelude.{unwrap_or}
+use Rattle.sn_actions.specs.PlainForms.{PlainForm}
 use Rattle.sn_app.specs.Apps.{AppState, readable}
 use Rattle.sn_app.specs.Desk.{Desk, roster_of}
 use Rattle.sn_link.specs.Link.{Line}
 use Rattle.sn_kind.specs.Unread.{CanCount, kind_unread, unread_of}
 use Rattle.sn_network.specs.Nets.{Net}
-use Rattle.sn_network.specs.Places.{found}
+use Rattle.sn_network.specs.Places.{class_in, found, named_in}
+use Rattle.sn_network.specs.Standing.{class_of}
 use Rattle.sn_network.specs.declared.place.Place.{Place}
 
 -- the records that an app of this state hasn't passed, if there is one
@@ -26,6 +28,12 @@ counted_in places captures name = unwrap_or (found (λ place. kind_unread place.
 -- each app can count among these captures
 abbrev pub CanCountAll : List Place → List (List ℕ) → Type 0
 CanCountAll places captures = (i : ℕ) (place : Place) → slice_get places i ≡ Some place → CanCount place.kind captures
+
+-- The apps stand once each, with the classes that a plain form has, and each can count among these captures.
+pub record CanCountLeft (places : List Place) (plain : PlainForm) (captures : List (List ℕ)) : Type 0 where
+  pub once : (name : List ℕ) → named_in name places ≤ 1
+  pub classes : (name : List ℕ) → class_in places name ≡ class_of plain name
+  pub counts : CanCountAll places captures
 
 -- the packets in the links of this many rows
 unfoldable pub packets_in : ℕ → Desk → ℕ

@@ -2,12 +2,13 @@
 ghost use Rattle.std.specs.FinMap as finmap;
 ghost use Rattle.std.specs.Prelude.{◌≡◌, ◌≤◌, ◌-◌, ◌^◌, ℕ, IsSome, List, min, sum_by};
 ghost use Rattle.sn_actions.specs.PlainOf.{plain_of};
-ghost use Rattle.sn_app.specs.World.{desk_of};
-ghost use Rattle.sn_network.specs.Left.{CanCountAll, counted_in, left_in, queued_in};
-ghost use Rattle.sn_network.specs.Networks.{IsStanding, shown, world_of};
+ghost use Rattle.sn_app.specs.Desk.{Tray, roster_of};
+ghost use Rattle.sn_app.specs.World.{Used, desk_of};
+ghost use Rattle.sn_network.specs.Left.{CanCountAll, CanCountLeft, counted_in, left_in, queued_in};
+ghost use Rattle.sn_network.specs.Networks.{IsStanding, plain_in, shown, world_of};
 ghost use Rattle.sn_network.specs.Places.{class_in, named_in};
 ghost use Rattle.sn_network.specs.Standing.{class_of};
-ghost use Rattle.sn_wiring.specs.Links.{slot_at};
+ghost use Rattle.sn_wiring.specs.Links.{FitsRoster, slot_at};
 
 use crate::Network;
 use crate::finding::find_app;
@@ -69,14 +70,24 @@ fn queued_packets(links: &Slab<Link>) -> u64
 
 impl Network {
     /// How many records its readers haven't passed, and how many packets are in its links, together; 2^64 - 1 where that is more.
-    /// The captures are those of the context, in their order. Of the context itself nothing is asked.
+    /// The captures are those of the context that it runs over, in their order.
+    pub fn left_among(&self, captures: &[Capture]) -> u64
+        requires { CanCountLeft self.now.places.items (plain_in self.now) captures.now }
+        ensures { (used : Used) (t : Tray) → FitsRoster (roster_of t).links self.now.links.slots
+            → captures.now ≡ t.log.constants.captures
+            → result ≡ left_in (shown self.now used t) (desk_of (world_of self.now used t)) }
+    {
+        let unread = unread_records(&self.places, &self.plain, captures);
+        unread.saturating_add(queued_packets(&self.links))
+    }
+
+    /// The same, where the context is at hand. Nothing is asked of it.
     pub fn left<C: Ctx>(&self, _ctx: &C, captures: &[Capture]) -> u64
         requires stands { IsStanding self.now (C.used _ctx.now) (C.tray _ctx.now) }
         requires captures { captures.now ≡ (C.tray _ctx.now).log.constants.captures }
         ensures { result ≡ left_in (shown self.now (C.used _ctx.now) (C.tray _ctx.now))
             (desk_of (world_of self.now (C.used _ctx.now) (C.tray _ctx.now))) }
     {
-        let unread = unread_records(&self.places, &self.plain, captures);
-        unread.saturating_add(queued_packets(&self.links))
+        self.left_among(captures)
     }
 }

@@ -1,8 +1,14 @@
 mod Applied
+mod GivingBack
+mod Leaving
 mod Listed
 mod Noting
+mod OwnEntries
 mod Prefixes
 mod Ranges
+mod Seats
+mod SlotRounds
+mod SlotTurning
 mod Staying
 mod Steps
 mod Turning

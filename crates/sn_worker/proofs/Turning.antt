@@ -17,7 +17,7 @@ use Rattle.sn_worker.specs.Turns.{breathes, last_turn, one_round, one_turn, roun
 use Rattle.sn_worker.specs.Turns.{working_turn}
 
 -- the same value
-same_value : {R : Type 0} {m : Meaning R} {w v : World} {before after : ℕ → ℕ} {x y : R} → x ≡ y
+pub same_value : {R : Type 0} {m : Meaning R} {w v : World} {before after : ℕ → ℕ} {x y : R} → x ≡ y
     → Runs m w v before after (Ok x) → Runs m w v before after (Ok y)
 same_value {m = m} {w} {v} {before} {after} e run = subst (λ z. Runs m w v before after (Ok z)) e run
 

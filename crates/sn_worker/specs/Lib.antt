@@ -4,3 +4,8 @@ pub mod Plans
 pub mod Turns
 pub mod Workers
 pub mod Ends
+pub mod Slots
+pub mod Giving
+pub mod SlotTurns
+pub mod Floors
+pub mod SlotViews

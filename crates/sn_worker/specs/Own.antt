@@ -5,10 +5,9 @@ use Rattle.sn_journal.specs.Cost.{cost_of}
 use Rattle.sn_journal.specs.declared.entry.Entry.{Entry}
 use Rattle.sn_journal.specs.declared.entry.Entry.TheVariants.{Breath, Hear, Round, Spent}
 
--- an entry of the worker's own: a round, how many actions are due, a breath, or that the journal is full
+-- an entry of the worker's own: a round, a breath, or that the journal is full
 abbrev pub is_own : Entry → Bool
 is_own (Round number) = true
-is_own (Hear due) = true
 is_own Breath = true
 is_own Spent = true
 is_own _ = false

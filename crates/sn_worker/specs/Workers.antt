@@ -8,6 +8,7 @@ use Rattle.sn_app.specs.World.{Used, World}
 use Rattle.sn_network.specs.Networks.{CanBeLost, CanBreathe, kept_by, plain_in, shown, world_of}
 use Rattle.sn_scenario.specs.PlanLaws.{committed}
 use Rattle.sn_worker.specs.Lives.{Life}
+use Rattle.sn_worker.specs.Slots.{SlotLife}
 use Rattle.sn_worker.specs.Plans.{CanTake, FindsAll}
 use Rattle.sn_worker.specs.declared.worker.Worker.{Worker}
 
@@ -23,6 +24,10 @@ life_of worker used t = record {
   waiting = slice_range worker.plan.items worker.applied worker.taken;
   spent = worker.spent;
 }
+
+-- the life of its slot, where so many breaths were taken since a hundred of them were full
+abbrev pub slot_life_of : Worker → ℕ → Used → Tray → SlotLife
+slot_life_of worker breathed used t = record { life = life_of worker used t; breathed = breathed }
 
 -- the world of a context and its links, and how often a place is among those that its apps keep
 abbrev pub world_around : Worker → Used → Tray → World

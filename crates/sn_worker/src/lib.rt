@@ -6,14 +6,28 @@
 //! - `turns`: its turns, and a round
 //! - `rounds`: the rounds of a scenario
 //! - `ending`: what it has left, and its end
+//! - `seated`: what a slot's turns need of a context beside what a worker's need
+//! - `giving`: how a slot gives free packets back
+//! - `slot_turns`: the turns of a worker over a seat, and a round
+//! - `live_work`: a seat at work as such a context
+//! - `slot`: a worker with its seat
+//! - `slot_plan`: a slot of a scenario
 #![tactic(auto)]
 
 mod ending;
+mod giving;
+mod live_work;
 mod rounds;
+mod seated;
+mod slot;
+mod slot_plan;
+mod slot_turns;
 mod taking;
 mod turns;
 mod work;
 mod worker;
 
-pub use work::Work;
+pub use seated::Seated;
+pub use slot::{RoundEnd, Slot};
+pub use work::{Dues, Work};
 pub use worker::Worker;

@@ -5,7 +5,7 @@ ghost use Rattle.sn_scenario.specs.Plans.{due_of};
 ghost use Rattle.sn_worker.specs.Turns.{rounds};
 ghost use Rattle.sn_worker.specs.Workers.{CanEnd, CanWork, kept_of, life_of, plan_in, world_around};
 
-use crate::{Work, Worker};
+use crate::{Dues, Worker};
 use sn_app::Halt;
 use sn_scenario::Scenario;
 use std::alloc::Global;
@@ -16,7 +16,7 @@ impl Worker {
     ///
     /// # Errors
     /// A stop, or want of memory. The worker is then only given to `lose`.
-    pub fn rounds<C: Work>(
+    pub fn rounds<C: Dues>(
         &mut self,
         alloc: Global,
         ctx: &mut C,

@@ -6,13 +6,13 @@ ghost use Rattle.sn_worker.specs.Turns.{breathes, last_turn, one_turn, round, tu
 ghost use Rattle.sn_worker.specs.Workers.{CanEnd, CanWork, kept_of, life_of, plan_in, world_around};
 
 use crate::taking::take_due;
-use crate::{Work, Worker};
+use crate::{Dues, Work, Worker};
 use sn_app::Halt;
 use sn_breath::breathe;
 use sn_journal::Entry;
 
 /// The worker's network breathes.
-fn breathe_once<C: Work>(worker: &mut Worker, ctx: &mut C) -> Result<(), Halt>
+pub(crate) fn breathe_once<C: Work>(worker: &mut Worker, ctx: &mut C) -> Result<(), Halt>
     requires works { CanWork worker.old (C.used ctx.old) (C.tray ctx.old) }
     ensures runs { Runs (breathes (plan_in worker.old) (life_of worker.old (C.used ctx.old) (C.tray ctx.old)))
         (world_around worker.old (C.used ctx.old) (C.tray ctx.old)) (world_around worker.new (C.used ctx.new) (C.tray ctx.new))
@@ -28,7 +28,7 @@ fn breathe_once<C: Work>(worker: &mut Worker, ctx: &mut C) -> Result<(), Halt>
 }
 
 /// A turn where the journal isn't full: the worker hears how many actions are due, takes the next of them, and breathes.
-fn work<C: Work>(worker: &mut Worker, ctx: &mut C, due: u64) -> Result<(), Halt>
+fn work<C: Dues>(worker: &mut Worker, ctx: &mut C, due: u64) -> Result<(), Halt>
     requires works { CanWork worker.old (C.used ctx.old) (C.tray ctx.old) }
     ensures runs { Runs (working_turn (plan_in worker.old) due (life_of worker.old (C.used ctx.old) (C.tray ctx.old)))
         (world_around worker.old (C.used ctx.old) (C.tray ctx.old)) (world_around worker.new (C.used ctx.new) (C.tray ctx.new))
@@ -38,13 +38,13 @@ fn work<C: Work>(worker: &mut Worker, ctx: &mut C, due: u64) -> Result<(), Halt>
     ensures lost { CanEnd worker.new (C.tray ctx.new) }
     ensures lent { C.lender ctx.new ≡ C.lender ctx.old }
 {
-    ctx.note(Entry::Hear(due))?;
+    ctx.note_due(due)?;
     take_due(worker, ctx, due)?;
     breathe_once(worker, ctx)
 }
 
 /// The turn of a worker whose journal is full: this is noted.
-fn end_spent<C: Work>(worker: &mut Worker, ctx: &mut C) -> Result<(), Halt>
+pub(crate) fn end_spent<C: Work>(worker: &mut Worker, ctx: &mut C) -> Result<(), Halt>
     requires works { CanWork worker.old (C.used ctx.old) (C.tray ctx.old) }
     ensures runs { Runs (last_turn (life_of worker.old (C.used ctx.old) (C.tray ctx.old)))
         (world_around worker.old (C.used ctx.old) (C.tray ctx.old)) (world_around worker.new (C.used ctx.new) (C.tray ctx.new))
@@ -60,7 +60,7 @@ fn end_spent<C: Work>(worker: &mut Worker, ctx: &mut C) -> Result<(), Halt>
 }
 
 /// A turn.
-fn take_turn<C: Work>(worker: &mut Worker, ctx: &mut C, due: u64) -> Result<(), Halt>
+fn take_turn<C: Dues>(worker: &mut Worker, ctx: &mut C, due: u64) -> Result<(), Halt>
     requires works { CanWork worker.old (C.used ctx.old) (C.tray ctx.old) }
     ensures runs { Runs (turn (plan_in worker.old) due (life_of worker.old (C.used ctx.old) (C.tray ctx.old)))
         (world_around worker.old (C.used ctx.old) (C.tray ctx.old)) (world_around worker.new (C.used ctx.new) (C.tray ctx.new))
@@ -78,7 +78,7 @@ fn take_turn<C: Work>(worker: &mut Worker, ctx: &mut C, due: u64) -> Result<(), 
 }
 
 /// So many turns, up to the one in which the worker is spent.
-fn take_turns<C: Work>(worker: &mut Worker, ctx: &mut C, breaths: u32, due: u64) -> Result<(), Halt>
+fn take_turns<C: Dues>(worker: &mut Worker, ctx: &mut C, breaths: u32, due: u64) -> Result<(), Halt>
     requires works { CanWork worker.old (C.used ctx.old) (C.tray ctx.old) }
     ensures runs { Runs (stepping breaths (one_turn (plan_in worker.old) due)
         (life_of worker.old (C.used ctx.old) (C.tray ctx.old)))
@@ -104,7 +104,7 @@ impl Worker {
     ///
     /// # Errors
     /// A stop, or want of memory. The worker is then only given to `lose`.
-    pub fn round<C: Work>(
+    pub fn round<C: Dues>(
         &mut self,
         ctx: &mut C,
         number: u32,

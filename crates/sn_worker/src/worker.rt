@@ -59,8 +59,8 @@ impl Worker {
         requires { number < scenario.now.settings.workers }
         ensures plan { IfOk result (λ worker. plan_in worker ≡ plan_of number scenario.now) }
         ensures life { IfOk result (λ worker. (used : Used) (t : Tray) → life_of worker used t ≡ new_life) }
-        ensures works { IfOk result (λ worker. (used : Used) (t : Tray) → Serves (roster_of number scenario.now) t
-            → CanWork worker used t) }
+        ensures works { IfOk result (λ worker. (used : Used) (t : Tray)
+            → Serves (roster_of number scenario.now) scenario.now.lanes number t → CanWork worker used t) }
         ensures kept { IfOk result (λ worker. (place : ℕ) → kept_of worker place ≡ 0) }
         ensures queues { IfOk result (λ worker. (used : Used) (t : Tray) → world_around worker used t ≡ world t used []) }
     {

@@ -1,26 +1,17 @@
 -- answers of src/left.rt, Network::left
-use Rattle.std.specs.FinMap as finmap
-use Rattle.std.proofs.Common.{subst, sym}
-use Rattle.sn_actions.specs.PlainOf.{plain_of}
-use Rattle.sn_network.specs.Left.{CanCountAll, unread_in}
-use Rattle.sn_network.specs.Networks.{shown}
-use Rattle.sn_network.proofs.Counted.{all_count, counted_shown}
-use Rattle.sn_network.proofs.QueuedRows.{left_is}
+use Rattle.sn_network.proofs.Counted.{all_count}
 use Rattle.sn_network.proofs.network.Network.left.Goals as goal
 
-pub unread_records-unread-requires-clause-captures : goal.unread_records-unread-requires-clause-captures
-unread_records-unread-requires-clause-captures g c =
-    subst (λ places. CanCountAll places c.args.captures.now) (sym c.deref.ensures.value)
-    (all_count c.args.self.now.places.items (g.C.Ctx.tray c.args._ctx.now) c.args.captures.now c.requires.captures
-    c.requires.stands.apps.ready)
+pub left_among-requires : goal.left_among-requires
+left_among-requires g c = record {
+  once = c.requires.stands.apps.once;
+  classes = c.requires.stands.apps.classes;
+  counts =
+      all_count c.args.self.now.places.items (g.C.Ctx.tray c.args._ctx.now) c.args.captures.now c.requires.captures
+      c.requires.stands.apps.ready;
+}
 
 pub returns : goal.returns
 returns g c =
-    left_is (g.C.Ctx.tray c.args._ctx.now) (g.C.Ctx.used c.args._ctx.now) c.args.self.now.links.slots 18446744073709551615
-    (unread_in (shown c.args.self.now (g.C.Ctx.used c.args._ctx.now) (g.C.Ctx.tray c.args._ctx.now)))
-    c.saturating_add.result c.unread_records-unread.result c.queued_packets.result c.requires.stands.links.fits
-    (counted_shown c.deref.result.now c.args.self.now.places.items c.deref.ensures.value (g.C.Ctx.used c.args._ctx.now)
-    (g.C.Ctx.tray c.args._ctx.now) c.args.captures.now
-    (finmap.keys (plain_of c.args.self.now.plain).apps) 18446744073709551615 c.unread_records-unread.result c.requires.captures
-    c.unread_records-unread.ensures)
-    c.queued_packets.ensures c.saturating_add.ensures
+    c.left_among.ensures (g.C.Ctx.used c.args._ctx.now) (g.C.Ctx.tray c.args._ctx.now) c.requires.stands.links.fits
+    c.requires.captures

@@ -10,5 +10,5 @@ pub returns-clause-works : goal.returns-clause-works
 returns-clause-works c = λ used t serves.
     c.new.ensures.works used t
     (subst (λ (plan : List Action). FindsAll plan t) (sym c.in_ok-plan.ensures.plan)
-    (all_found (roster_of c.args.number c.args.scenario.now) t serves (plan_of c.args.number c.args.scenario.now)
-    c.in_ok-plan.ensures.listed))
+    (all_found (roster_of c.args.number c.args.scenario.now) c.args.scenario.now.lanes c.args.number t serves
+    (plan_of c.args.number c.args.scenario.now) c.in_ok-plan.ensures.listed c.in_ok-plan.ensures.own_ends))
