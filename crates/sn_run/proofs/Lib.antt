@@ -1,6 +1,7 @@
 pub mod AnswerClauses
 pub mod CallLists
 pub mod Headlines
+mod NoLanes
 pub mod Numbers
 pub mod OneAnswer
 pub mod OneCommand

@@ -1,10 +1,10 @@
 use Rattle.std.proofs.Common.{ap, refl}
-use Rattle.std.proofs.lemmas.Bool.{lt-ltb}
 use Rattle.sn_app.specs.Bench.{tray_of}
 use Rattle.sn_app.specs.Desk.{roster_of}
 use Rattle.sn_packet.specs.Hold.{used_of}
 use Rattle.sn_worker.specs.Workers.{world_around}
 use Rattle.sn_run.specs.OnBench.{life_on}
+use Rattle.sn_run.proofs.NoLanes.{no_lane}
 use Rattle.sn_run.proofs.Replaying.{opens_on, rounds_of, run_replayed}
 use Rattle.sn_run.proofs.values.run_worker.Goals as goal
 
@@ -12,7 +12,11 @@ pub rounds-requires-clause-works : goal.rounds-requires-clause-works
 rounds-requires-clause-works c =
     let bench : _ = c.args.bench.now in
     c.in_ok-worker.ensures.works (used_of bench.held) (tray_of bench)
-    (record { roster = ap roster_of c.requires.opening; ends = λ lane side within. lt-ltb lane _ within })
+    (record {
+      roster = ap roster_of c.requires.opening;
+      receives = λ lane leads. absurd (no_lane c.args.scenario.now _ c.requires.now leads);
+      transmits = λ lane leads. absurd (no_lane c.args.scenario.now _ c.requires.now leads);
+    })
 
 pub returns-in-Ok-clause-replay : goal.returns-in-Ok-clause-replay
 returns-in-Ok-clause-replay c =
