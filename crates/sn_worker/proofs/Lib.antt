@@ -1,4 +1,5 @@
 mod Applied
+mod ClosingParts
 mod GivingBack
 mod Leaving
 mod Listed

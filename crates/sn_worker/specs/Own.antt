@@ -3,7 +3,7 @@ use Rattle.std.specs.Prelude.{ℕ, ◌==◌, Bool, true, false, if◌then◌else
 use Rattle.sn_app.specs.Desk.{Tray}
 use Rattle.sn_journal.specs.Cost.{cost_of}
 use Rattle.sn_journal.specs.declared.entry.Entry.{Entry}
-use Rattle.sn_journal.specs.declared.entry.Entry.TheVariants.{Breath, Hear, Round, Spent}
+use Rattle.sn_journal.specs.declared.entry.Entry.TheVariants.{Breath, Close, Hear, Round, Spent}
 
 -- an entry of the worker's own: a round, a breath, or that the journal is full
 abbrev pub is_own : Entry → Bool
@@ -29,6 +29,11 @@ a_breath _ = None
 abbrev pub a_spent : Entry → Option Unit
 a_spent Spent = Some tt
 a_spent _ = None
+
+-- that the slot is closed
+abbrev pub a_close : Entry → Option Unit
+a_close Close = Some tt
+a_close _ = None
 
 -- the cost from which on a journal is full
 abbrev pub full_cost : ℕ

@@ -1,15 +1,17 @@
--- What a turn of a slot and a round of it mean.
+-- What a turn of a slot, a round of it, and its closing mean.
 use Rattle.std.specs.Prelude.{ℕ, ◌&&◌, Bool, true, false, not, List, nat_le}
 use Rattle.std.specs.List.{list_all}
 use Rattle.sn_actions.specs.declared.action.Action.{Action}
 use Rattle.sn_app.specs.Desk.{Desk}
-use Rattle.sn_app.specs.Reader.{Meaning, pure, refused, ◌>>=◌, look, read, stepping}
+use Rattle.sn_app.specs.Reader.{Meaning, pure, refused, ◌>>=◌, change, look, read, stepping}
 use Rattle.sn_app.specs.Rows.{row_hear, ◌>>◌}
 use Rattle.sn_breath.specs.Breaths.{folding}
+use Rattle.sn_reclaim.specs.Attempts.{attempt}
 use Rattle.sn_seat.specs.Told.{of_channel}
+use Rattle.sn_wiring.specs.Lost.{lost}
 use Rattle.sn_worker.specs.Giving.{gives_after}
 use Rattle.sn_worker.specs.Lives.{Life, next_actions, takes}
-use Rattle.sn_worker.specs.Own.{a_round, is_full}
+use Rattle.sn_worker.specs.Own.{a_close, a_round, is_full}
 use Rattle.sn_worker.specs.Slots.{SlotLife, after_breath}
 use Rattle.sn_worker.specs.Turns.{breathes, last_turn}
 
@@ -63,3 +65,7 @@ one_slot_turn plan floor keep s = slot_turn plan floor keep s >>= until_spent
 unfoldable pub slot_round : List Action → ℕ → ℕ → ℕ → ℕ → SlotLife → Meaning SlotLife
 slot_round plan breaths floor keep number s =
     read (a_round number) >> stepping breaths (one_slot_turn plan floor keep) s
+
+-- A slot is closed: this is noted, its worker's network is lost, and what its seat holds is reclaimed.
+unfoldable pub slot_closes : Meaning Unit
+slot_closes = read a_close >> change lost >> attempt

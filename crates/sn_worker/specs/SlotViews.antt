@@ -1,5 +1,5 @@
 -- A slot in memory, as contracts see it with the captures that its seat shares.
-use Rattle.std.specs.Prelude.{ℕ, ◌≡◌, ◌++◌, Bool, false, List}
+use Rattle.std.specs.Prelude.{ℕ, ◌≡◌, ◌++◌, Bool, true, false, List}
 use Rattle.sn_actions.specs.declared.action.Action.{Action}
 use Rattle.sn_app.specs.Desk.{Desk, Tray}
 use Rattle.sn_app.specs.Reader.{done}
@@ -58,6 +58,10 @@ pub record CanRun (captures : List (List ℕ)) (slot : Slot) : Type 0 where
   pub works : CanWork slot.worker (slot_used slot) (slot_tray captures slot)
   pub runs : slot.state ≡ Running
   pub open_yet : slot.closed ≡ false
+
+-- it was closed
+abbrev pub IsClosed : Slot → Type 0
+IsClosed slot = slot.closed ≡ true
 
 -- what a slot was made with stays: its plan, how many turns it takes in a round, how often it may be started again, and how many
 -- free packets it keeps

@@ -1,13 +1,17 @@
 //! What a worker has left, and its end.
 ghost use Rattle.std.specs.Prelude.{◌≡◌, []};
-ghost use Rattle.sn_app.specs.World.{desk_of, world};
+ghost use Rattle.sn_app.specs.Desk.{Tray};
+ghost use Rattle.sn_app.specs.World.{Used, desk_of, world};
 ghost use Rattle.sn_wiring.specs.Lost.{lost};
 ghost use Rattle.sn_worker.specs.Ends.{left_of};
 ghost use Rattle.sn_worker.specs.Workers.{CanEnd, CanWork, life_of, plan_in, world_around};
 
 use crate::Worker;
 use sn_app::Ctx;
+use sn_network::Network;
 use sn_pcap::Capture;
+use std::alloc::Global;
+use std::mem;
 
 impl Worker {
     /// Whether its journal was full at the beginning of a turn.
@@ -27,6 +31,15 @@ impl Worker {
     {
         let unapplied = (self.plan.len() - self.applied) as u64;
         unapplied.saturating_add(self.network.left(ctx, captures))
+    }
+
+    /// Takes its network out. An empty one stays.
+    pub(crate) fn take_network(&mut self, alloc: Global) -> Network
+        ensures network { result ≡ self.old.network }
+        ensures queues { (used : Used) (t : Tray) → world_around self.new used t ≡ world t used [] }
+        ensures plan { plan_in self.new ≡ plan_in self.old }
+    {
+        mem::replace(&mut self.network, Network::new(alloc))
     }
 
     /// Ends the worker: its network is lost, and the counts of all its links are kept.

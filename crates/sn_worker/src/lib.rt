@@ -12,8 +12,10 @@
 //! - `live_work`: a seat at work as such a context
 //! - `slot`: a worker with its seat
 //! - `slot_plan`: a slot of a scenario
+//! - `closing`: how a slot is closed
 #![tactic(auto)]
 
+mod closing;
 mod ending;
 mod giving;
 mod live_work;
