@@ -1,5 +1,5 @@
 -- What the closing of a slot reads, from its parts.
-use Rattle.std.proofs.Common.{◌≡◌, ℕ, List, [], Option, Ok, true, refl, sym, ap, subst, ◌∙◌}
+use Rattle.std.proofs.Common.{◌≡◌, ℕ, List, [], Option, Ok, true, refl, sym, ap, subst}
 use mathlib.Core.Path.{fun_ext}
 use Rattle.sn_app.specs.Answers.{Answers, AnswersCase, OnTray, Reads}
 use Rattle.sn_app.specs.Desk.{Desk, Queue, Tray, after_entry}

@@ -1,10 +1,11 @@
 -- A free packet is given back, or isn't, as its meaning reads; and again and again.
-use Rattle.std.proofs.Common.{◌≡◌, ℕ, ◌-◌, ◌<◌, ◌≤◌, ◌==◌, Bool, true, false, List, [], ◌∷◌, length, nat_lt, Option, Some, None, Result, Ok, Err}
+use Rattle.std.proofs.Common.{◌≡◌, ℕ, ◌-◌, ◌<◌, ◌≤◌, ◌==◌, Bool, true, false, List}
+use Rattle.std.proofs.Common.{[], ◌∷◌, length, nat_lt, Option, Some, None, Result, Ok, Err}
 use Rattle.std.proofs.Common.{refl, sym, subst, arith, le-ltb, lt-ltb, ltb-true}
 use Rattle.sn_app.specs.Answers.{Answers, OnTray}
-use Rattle.sn_app.specs.Desk.{Desk, Queue, Tray, freed}
-use Rattle.sn_app.specs.Reader.{Meaning, Outcome, done, go_on, look, pure, times, ◌>>=◌}
-use Rattle.sn_app.specs.Rows.{frees, last_of, refill_needed, refill_where, row_allocate, row_give, take_last}
+use Rattle.sn_app.specs.Desk.{Desk, Tray, freed}
+use Rattle.sn_app.specs.Reader.{go_on, look, pure, times, ◌>>=◌}
+use Rattle.sn_app.specs.Rows.{frees, refill_needed, refill_where, row_allocate, row_give, take_last}
 use Rattle.sn_app.specs.declared.halt.Halt.{Halt}
 use Rattle.sn_app.proofs.OnTrays.{Leads, leads_start, tray_bind, tray_changed, tray_fail, tray_pure}
 use Rattle.sn_app.proofs.Playing.{desk}

@@ -1,5 +1,5 @@
 -- What a worker has left: the actions that weren't applied, and what its network has left.
-use Rattle.std.proofs.Common.{◌≡◌, ℕ, ◌+◌, ◌-◌, ◌≤◌, Bool, List, ap, ◌∙◌, arith, drop, length, min, slice_range}
+use Rattle.std.proofs.Common.{◌≡◌, ℕ, ◌+◌, ◌-◌, List, ap, ◌∙◌, arith, drop, length, min, slice_range}
 use Rattle.std.proofs.Common.{length-drop, length-take}
 use Rattle.sn_actions.specs.PlainForms.{PlainForm}
 use Rattle.sn_actions.specs.declared.action.Action.{Action}
@@ -20,4 +20,6 @@ pub left_sum : (plan : List Action) (applied taken : ℕ) (form : PlainForm) (mo
     → sum ≡ min (length plan - (taken - length (slice_range plan applied taken)) + queued) most
 left_sum plan applied taken form most unapplied left sum queued h total some rest =
     let same = unapplied_is plan applied taken form h in
-    total ∙ ap (λ (n : ℕ). min n most) (let e : unapplied + left ≡ length plan - (taken - length (slice_range plan applied taken)) + queued = omega (arith, same, some, rest) in e)
+    let both : unapplied + left ≡ length plan - (taken - length (slice_range plan applied taken)) + queued =
+    omega (arith, same, some, rest) in
+    total ∙ ap (λ (n : ℕ). min n most) both

@@ -10,7 +10,7 @@ use Rattle.sn_actions.specs.declared.action.Action.{Action}
 use Rattle.sn_actions.specs.declared.action.Action.TheVariants.{NewLink, ReconfigApp}
 use Rattle.sn_actions.specs.declared.action.Action.TheVariants.{StartApp}
 use Rattle.sn_app.specs.Calls.{HasLink, HasName, row_of, same_link}
-use Rattle.sn_app.specs.Desk.{Tray, roster_of}
+use Rattle.sn_app.specs.Desk.{Tray}
 use Rattle.sn_app.specs.Starts.{ArgIsThere}
 use Rattle.sn_config.specs.ArgText.{IsArgOf}
 use Rattle.sn_config.specs.declared.app_spec.AppSpec.{AppSpec}
@@ -70,11 +70,13 @@ module _ (rows : RosterRows) (lanes : List LaneSpec) (worker : ℕ) (t : Tray) (
       subst (λ (r : RosterRows). HasName r.files name) (sym serves.roster)
       (has_name rows.files name (writes name (same_name name)))
   arg_there Receiver (Lane name) is reads writes receives transmits own =
-      let rows_are : RosterRows → Type 0 = λ r. HasName r.lanes name × IsTrue (t.log.constants.has_end (row_of r.lanes name) Rx) in
+      let rows_are : RosterRows → Type 0 =
+      λ r. HasName r.lanes name × IsTrue (t.log.constants.has_end (row_of r.lanes name) Rx) in
       subst rows_are (sym serves.roster)
       (has_name rows.lanes name (receives name (same_name name)), serves.receives name (own.receives name (same_name name)))
   arg_there Transmitter (Lane name) is reads writes receives transmits own =
-      let rows_are : RosterRows → Type 0 = λ r. HasName r.lanes name × IsTrue (t.log.constants.has_end (row_of r.lanes name) Tx) in
+      let rows_are : RosterRows → Type 0 =
+      λ r. HasName r.lanes name × IsTrue (t.log.constants.has_end (row_of r.lanes name) Tx) in
       subst rows_are (sym serves.roster)
       (has_name rows.lanes name (transmits name (same_name name)), serves.transmits name (own.transmits name (same_name name)))
   arg_there PcapReader Nothing is reads writes receives transmits own = absurd is

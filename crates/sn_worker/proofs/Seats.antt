@@ -1,12 +1,13 @@
 -- What a worker knows stays where its context did something beside its apps and gave back what it took.
-use Rattle.std.proofs.Common.{◌≡◌, ℕ, ◌<◌, ◌+◌, List, Option, None, Result, Ok, Err, OnErr, OnOk, IsSome, refl, sym, ap, subst, ◌∙◌, arith}
+use Rattle.std.proofs.Common.{◌≡◌, ℕ, List, Option, None, Result, Ok}
+use Rattle.std.proofs.Common.{Err, OnErr, OnOk, IsSome, sym, ap, subst, ◌∙◌, arith}
 use mathlib.Core.Path.{fun_ext}
 use Rattle.sn_link.specs.Link.{Line}
 use Rattle.sn_app.specs.Answers.{Answers, OnTray, Stays}
 use Rattle.sn_app.specs.Desk.{Tray}
 use Rattle.sn_app.specs.Reader.{Meaning}
 use Rattle.sn_app.specs.Runs.{Runs}
-use Rattle.sn_app.specs.World.{IsSound, Used, desk_of, in_slots, queue_in, world}
+use Rattle.sn_app.specs.World.{IsSound, Used, desk_of, queue_in, world}
 use Rattle.sn_app.specs.declared.halt.Halt.{Halt}
 use Rattle.sn_app.proofs.Calling.{runs_left}
 use Rattle.sn_app.proofs.Moving.{desk_used}

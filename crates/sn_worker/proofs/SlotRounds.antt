@@ -12,8 +12,8 @@ use Rattle.sn_seat.specs.declared.seat.Seat.{Seat}
 use Rattle.sn_seat.specs.declared.shared.Shared.{Shared}
 use Rattle.sn_worker.specs.Floors.{lent_floor}
 use Rattle.sn_worker.specs.SlotTurns.{slot_round}
-use Rattle.sn_worker.specs.SlotViews.{CanRun, RoundRead, slot_life, slot_met, slot_plan, slot_tray, slot_used}
-use Rattle.sn_worker.specs.Workers.{CanWork, kept_of, slot_life_of, world_around}
+use Rattle.sn_worker.specs.SlotViews.{RoundRead, slot_life, slot_met, slot_plan, slot_tray, slot_used}
+use Rattle.sn_worker.specs.Workers.{kept_of, slot_life_of, world_around}
 use Rattle.sn_worker.specs.declared.slot.Slot.{Slot}
 use Rattle.sn_worker.proofs.Works.{run_stays}
 

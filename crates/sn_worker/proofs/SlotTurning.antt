@@ -1,16 +1,17 @@
 -- What a worker does in a turn over a seat, part by part, as the turn's meaning has it.
-use Rattle.std.proofs.Common.{◌≡◌, ℕ, ◌≤◌, ◌&&◌, Bool, true, false, not, nat_le, List, [], ◌∷◌, Result, Ok, Err, All, OnOk, sym, ap, subst}
+use Rattle.std.proofs.Common.{◌≡◌, ℕ, ◌≤◌, ◌&&◌, Bool, true, false, not, nat_le, List}
+use Rattle.std.proofs.Common.{[], ◌∷◌, Result, Ok, Err, All, OnOk, sym, ap, subst}
 use Rattle.std.proofs.lemmas.Bool.{and_from, le-leb}
 use Rattle.std.proofs.lemmas.List.Elements.{recursion_from_All}
 use Rattle.std.specs.List.{AllByRecursion, list_all}
 use Rattle.std.specs.Prelude.{refl}
 use Rattle.sn_actions.specs.declared.action.Action.{Action}
-use Rattle.sn_app.specs.Answers.{Answers, OnTray, Stays}
+use Rattle.sn_app.specs.Answers.{Answers, OnTray}
 use Rattle.sn_app.specs.Desk.{Tray}
-use Rattle.sn_app.specs.Reader.{Meaning, pure, ◌>>=◌, look, read, stepping}
+use Rattle.sn_app.specs.Reader.{pure, ◌>>=◌, read, stepping}
 use Rattle.sn_app.specs.Rows.{row_hear}
 use Rattle.sn_app.specs.Runs.{Runs, stands_at}
-use Rattle.sn_app.specs.World.{Used, World, desk_of, world}
+use Rattle.sn_app.specs.World.{World, desk_of}
 use Rattle.sn_app.specs.declared.halt.Halt.{Halt}
 use Rattle.sn_app.proofs.Playing.{desk}
 use Rattle.sn_app.proofs.Readings.{answers_bind, answers_fail, answers_look, answers_pure}
@@ -20,7 +21,8 @@ use Rattle.sn_seat.specs.Told.{of_channel}
 use Rattle.sn_worker.specs.Giving.{gives_after}
 use Rattle.sn_worker.specs.Lives.{Life, next_actions, takes}
 use Rattle.sn_worker.specs.Own.{a_round, is_full}
-use Rattle.sn_worker.specs.SlotTurns.{acting, heard_where, hears, may_hear, one_slot_turn, rests, slot_last, slot_round, slot_turn}
+use Rattle.sn_worker.specs.SlotTurns.{acting, heard_where, hears, may_hear, one_slot_turn, rests, slot_last, slot_round}
+use Rattle.sn_worker.specs.SlotTurns.{slot_turn}
 use Rattle.sn_worker.specs.SlotTurns.{slot_turn_where, slot_work, until_spent}
 use Rattle.sn_worker.specs.Slots.{SlotLife, after_breath}
 use Rattle.sn_worker.specs.Turns.{breathes, last_turn}
@@ -95,7 +97,8 @@ module _ (plan : List Action) (floor keep : ℕ) (s : SlotLife) (w v : World) (b
       runs_fail (rests keep (after_breath s.breathed)) after (runs_fail (acting plan s.life) after heard)
 
   pub work_halts : (due : ℕ) (halt : Halt) (z : World) (inner after : ℕ → ℕ) → Runs (hears floor) w v before between (Ok due)
-      → Runs (acting plan s.life due) v z between inner (Err halt) → Runs (slot_work plan floor keep s) w z before after (Err halt)
+      → Runs (acting plan s.life due) v z between inner (Err halt)
+      → Runs (slot_work plan floor keep s) w z before after (Err halt)
   unfolding slot_work
   work_halts due halt z inner after heard acted =
       runs_fail (rests keep (after_breath s.breathed)) after (runs_bind (acting plan s.life) heard acted)
@@ -117,7 +120,8 @@ last_by s next life w v before after (Ok done) e run =
     same_value e (runs_bind (λ (l : Life). pure (record s { life = l })) run (runs_pure (record s { life = life }) v after))
 last_by s next life w v before after (Err halt) e run = runs_fail (λ (l : Life). pure (record s { life = l })) after run
 
-module _ (plan : List Action) (floor keep : ℕ) (s : SlotLife) (w v : World) (before after : ℕ → ℕ) (r : Result SlotLife Halt) where
+module _ (plan : List Action) (floor keep : ℕ) (s : SlotLife) (w v : World) (before after : ℕ → ℕ)
+    (r : Result SlotLife Halt) where
   turn_by : (b : Bool) → is_full w.tray ≡ b → Runs (slot_turn_where b plan floor keep s) w v before after r
       → Runs (slot_turn plan floor keep s) w v before after r
   unfolding slot_turn desk_of
@@ -125,7 +129,8 @@ module _ (plan : List Action) (floor keep : ℕ) (s : SlotLife) (w v : World) (b
       runs_look (λ d. slot_turn_where (is_full d.tray) plan floor keep s)
       (subst (λ c. Runs (slot_turn_where c plan floor keep s) w v before after r) (sym full) run)
 
-  pub slot_full : is_full w.tray ≡ true → Runs (slot_last s) w v before after r → Runs (slot_turn plan floor keep s) w v before after r
+  pub slot_full : is_full w.tray ≡ true → Runs (slot_last s) w v before after r
+      → Runs (slot_turn plan floor keep s) w v before after r
   unfolding slot_turn_where
   slot_full full run = turn_by true full run
 

@@ -1,5 +1,4 @@
 -- answers of src/giving.rt, give_after
-use Rattle.std.proofs.Common.{rules}
 use Rattle.std.proofs.lemmas.Bool.{eq-eqb, ne_eqb}
 use Rattle.sn_worker.proofs.GivingBack.{after_fewer, after_hundred}
 use Rattle.sn_worker.proofs.giving.give_after.Goals as goal

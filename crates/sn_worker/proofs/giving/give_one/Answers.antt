@@ -1,5 +1,6 @@
 -- answers of src/giving.rt, give_one
-use Rattle.std.proofs.Common.{Err, None, Ok, Some, ap, arith, false, length, lt-ltb, nat_lt, ltb-false, refl, rules, subst, sym, true, ◌<◌, ◌≡◌, ◌≤◌}
+use Rattle.std.proofs.Common.{Err, None, Ok, Some}
+use Rattle.std.proofs.Common.{rules, subst, ◌≡◌}
 use Rattle.sn_app.specs.Answers.{OnTray}
 use Rattle.sn_app.specs.Calls.{named}
 use Rattle.sn_app.specs.Desk.{name_of}

@@ -1,6 +1,5 @@
 -- answers of src/giving.rt, give_over
-use Rattle.std.proofs.Common.{Err, Ok, false, refl, rules, subst, true, ◌<◌, ◌∙◌, ◌≡◌, ◌≤◌}
-use Rattle.sn_app.specs.Answers.{OnTray}
+use Rattle.std.proofs.Common.{Err, false, refl, rules, subst, true, ◌<◌, ◌∙◌, ◌≡◌, ◌≤◌}
 use Rattle.sn_app.proofs.OnTrays.{leads_done, leads_fail, leads_next, leads_stop}
 use Rattle.sn_worker.specs.Giving.{gives_one}
 use Rattle.sn_worker.proofs.GivingBack.{gave_as, leads_first, over_done, over_halts}

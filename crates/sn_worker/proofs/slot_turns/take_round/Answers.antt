@@ -32,7 +32,8 @@ returns-clause-runs g c =
     let floor : ℕ = g.C.Seated.floor (g.C.Ctx.lender c.args.ctx.now) in
     let keep = c.args.keep in
     let breathed : ℕ = c.args.breathed.now in
-    let noted : SlotLife = slot_life_of c.args.worker.now breathed (g.C.Ctx.used c.note.new.self) (g.C.Ctx.tray c.note.new.self) in
+    let noted : SlotLife = slot_life_of c.args.worker.now breathed (g.C.Ctx.used c.note.new.self)
+    (g.C.Ctx.tray c.note.new.self) in
     runs_slot_round plan c.args.breaths floor keep c.args.number _ _ _ _ _ _ _
     (runs_noted (a_round c.args.number) (Round c.args.number) _ _ _ _ _ _ (round_read c.args.number) c.in_ok-note.ensures.may
     c.in_ok-note.ensures.noted c.in_ok-note.ensures.used)

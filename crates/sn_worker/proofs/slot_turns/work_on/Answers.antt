@@ -1,12 +1,10 @@
 -- answers of src/slot_turns.rt, work_on
-use Rattle.std.proofs.Common.{Err, List, ap, rules, sym, ℕ, ◌∙◌, ◌≡◌}
-use Rattle.sn_actions.specs.declared.action.Action.{Action}
+use Rattle.std.proofs.Common.{Err, ap, rules, sym, ℕ, ◌≡◌}
 use Rattle.sn_app.proofs.Calling.{runs_left}
 use Rattle.sn_app.specs.World.{Used}
-use Rattle.sn_worker.specs.Giving.{gives_after}
 use Rattle.sn_worker.specs.Lives.{Life}
 use Rattle.sn_worker.specs.SlotTurns.{acting, rests}
-use Rattle.sn_worker.specs.Slots.{SlotLife, after_breath}
+use Rattle.sn_worker.specs.Slots.{SlotLife}
 use Rattle.sn_worker.specs.Workers.{life_of, plan_in}
 use Rattle.sn_worker.proofs.Seats.{kept_life, kept_works, runs_stayed, same_used, tray_stays, works_sound}
 use Rattle.sn_worker.proofs.SlotTurning.{heard_well, hears_halts, rests_by, runs_work, work_halts, work_unheard}

@@ -15,7 +15,8 @@ use Rattle.sn_worker.proofs.turns.work.Goals as goal
 pub returns-in_err-note_due-clause-runs : goal.returns-in_err-note_due-clause-runs
 returns-in_err-note_due-clause-runs g c =
     let e : c.from_residual.result ≡ Err c.in_err-note_due.field-0.0 = search rules in
-    rw e (runs_refused _ _ _ _ _ _ _ _ c.in_err-note_due.field-0.0 c.in_err-note_due.ensures.memory c.in_err-note_due.ensures.refused
+    rw e (runs_refused _ _ _ _ _ _ _ _ c.in_err-note_due.field-0.0 c.in_err-note_due.ensures.memory
+    c.in_err-note_due.ensures.refused
     c.in_err-note_due.ensures.used)
 
 pub take_due-requires : goal.take_due-requires

@@ -1,6 +1,6 @@
 -- answers of src/slot.rt, Slot::new
 use Rattle.std.proofs.Common.{ap, refl}
-use Rattle.sn_app.specs.World.{World, desk_of}
+use Rattle.sn_app.specs.World.{desk_of}
 use Rattle.sn_seat.specs.Trays.{no_captures, seat_tray, seat_used}
 use Rattle.sn_worker.specs.Lives.{Life}
 use Rattle.sn_worker.proofs.slot.Slot.new.Goals as goal
