@@ -8,6 +8,8 @@
 mod hands;
 mod opening;
 #[cfg(test)]
+mod reclaim_tests;
+#[cfg(test)]
 mod tests;
 mod trials;
 

@@ -108,8 +108,9 @@ pub noted_as : (t : Tray) {v : Tray} {gave kept : GaveAnswer} (packet : PacketSt
     → gave ≡ kept → v ≡ after_entry (gave_entry packet kept) t
 noted_as t packet now is = now ∙ ap (λ g. after_entry (gave_entry packet g) t) is
 
-pub freed_after : (t m : Tray) {v : Tray} {u w : Used} (place : ℕ) (entry : Entry) → v ≡ freed (name_of (packet_at w place)) m → w ≡ u
-    → m ≡ after_entry entry t → v ≡ freed (name_of (packet_at u place)) (after_entry entry t)
+pub freed_after : (t m : Tray) {v : Tray} {u w : Used} (place : ℕ) (entry : Entry)
+    → v ≡ freed (name_of (packet_at w place)) m → w ≡ u → m ≡ after_entry entry t
+    → v ≡ freed (name_of (packet_at u place)) (after_entry entry t)
 freed_after t m {u = u} place entry now same noted =
     now ∙ (ap (λ z. freed (name_of (packet_at z place)) m) same ∙ ap (freed (name_of (packet_at u place))) noted)
 
@@ -117,7 +118,8 @@ pub one_more : (t : Tray) {v : Tray} (name : PacketName) (entry : Entry) → v �
     → length v.log.past ≡ length t.log.past + 1
 one_more t name entry now = ap (λ (z : Tray). length z.log.past) now ∙ length-append t.log.past (entry ∷ [])
 
-pub leaves_freed : (t : Tray) {v : Tray} (name : PacketName) (entry : Entry) → v ≡ freed name (after_entry entry t) → LeavesEnds t v
+pub leaves_freed : (t : Tray) {v : Tray} (name : PacketName) (entry : Entry) → v ≡ freed name (after_entry entry t)
+    → LeavesEnds t v
 leaves_freed t name entry now =
     subst (λ z. LeavesEnds t z) (sym now) (record { constants = refl; files = refl; ends = refl })
 

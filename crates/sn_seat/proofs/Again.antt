@@ -1,6 +1,6 @@
 -- A meaning again and again, over trays, where want of memory alone halts it.
-use Rattle.std.proofs.Common.{◌≡◌, ℕ, suc, ◌+◌, ◌++◌, ◌∙◌, Bool, true, false, if◌then◌else◌, List, length, Option, Result, Ok, Err}
-use Rattle.std.proofs.Common.{refl, sym, ap, subst, arith, append_assoc, length-append}
+use Rattle.std.proofs.Common.{◌≡◌, ℕ, suc, ◌+◌, ◌++◌, ◌∙◌, Bool, true, false, if◌then◌else◌, List, length, Option, Result}
+use Rattle.std.proofs.Common.{Ok, Err, refl, sym, ap, subst, arith, append_assoc, length-append}
 use Rattle.sn_journal.specs.declared.entry.Entry.{Entry}
 use Rattle.sn_app.specs.Answers.{AnswersCase, OnTray, all_may}
 use Rattle.sn_app.specs.Desk.{Desk, Queue, Tray}

@@ -85,7 +85,8 @@ module _ (phase : Phase) (u v : Tray) (lane : ℕ) (side : Side) where
       let b : Tray = with_end lane side (closing_end 1) a in
       let e : Tray = drained_in phase name (with_end lane side (closing_end 0) b) in
       let same : e ≡ drained_in phase name (after_step lane side (closing_end 0) entry u) =
-      ap (λ es. drained_in phase name (record a { ends = es })) (set_end_twice lane side (closing_end 0) (closing_end 1) u.ends) in
+      ap (λ es. drained_in phase name (record a { ends = es }))
+      (set_end_twice lane side (closing_end 0) (closing_end 1) u.ends) in
       subst (λ z. OnTray (drain_one phase lane side) u z (Ok true)) (same ∙ sym now)
       (tray_bind (drained phase lane side)
       (tray_bind (λ x. read (drain_or_reset_of lane)) (skips phase drain_or_reset u (drain_ungated phase))
@@ -194,11 +195,13 @@ whole_row {t} {v} {r} phase lane side state is f = record {
 
 -- its gate is passed
 pub detach_then : {t u v : Tray} {r : Result Unit Halt} (phase : Phase) (lane : ℕ) (side : Side) → (t.ends lane side).state ≡ Up
-    → OnTray (gate_in phase detach) t u (Ok tt) → OnTray (leaving phase lane side) u v r → OnTray (row_detach phase lane side) t v r
+    → OnTray (gate_in phase detach) t u (Ok tt) → OnTray (leaving phase lane side) u v r
+    → OnTray (row_detach phase lane side) t v r
 unfolding detach_from leaving
 detach_then phase lane side up gated rest =
     whole_row phase lane side Up up (record {
-      at = λ queues. answers_at (λ es. assoc_at (gate_in phase detach) (read (a_detach lane side)) (detached phase lane side) _ es)
+      at = λ queues. answers_at
+          (λ es. assoc_at (gate_in phase detach) (read (a_detach lane side)) (detached phase lane side) _ es)
           ((tray_bind (λ x. leaving phase lane side) gated rest).at queues);
     })
 

@@ -144,8 +144,8 @@ back_told packet answer.Worn fresh = absurd cc
 
 -- a packet that isn't worn
 pub back_reads : (u v : Tray) (packet : PacketState) (gave : GaveAnswer) → (packet.turn == highest_turn) ≡ false
-    → ((entry : Entry) → u.log.constants.may entry ≡ true) → is_worn_gave gave ≡ false → v ≡ after_entry (gave_entry packet gave) u
-    → OnTray (gives_back (name_of packet)) u v (Ok (is_done gave))
+    → ((entry : Entry) → u.log.constants.may entry ≡ true) → is_worn_gave gave ≡ false
+    → v ≡ after_entry (gave_entry packet gave) u → OnTray (gives_back (name_of packet)) u v (Ok (is_done gave))
 unfolding gives_back
 back_reads u v packet gave fresh may not_worn now =
     subst (λ z. OnTray (read (a_given_back (name_of packet))) u z (Ok (is_done gave))) (sym now)

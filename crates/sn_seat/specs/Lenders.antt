@@ -30,8 +30,8 @@ wire_back w = λ i. (w.0, side_back w.1 i, w.2)
 
 -- what tells a wire, and a bond, from every other
 abbrev pub wire_code : Coded Wire
-wire_code = code_by (ℕ × (Bool × LaneId)) (coded× coded_ℕ (coded× coded_bool table_id_coded)) (λ w. (w.0, (is_tx w.1, w.2))) wire_by
-    wire_back
+wire_code = code_by (ℕ × (Bool × LaneId)) (coded× coded_ℕ (coded× coded_bool table_id_coded))
+    (λ w. (w.0, (is_tx w.1, w.2))) wire_by wire_back
 
 abbrev pub bond_code : Coded Bond
 bond_code = code_by (ℕ × (List Wire × (TableId × (TableId × (ℕ × (ℕ × ℕ))))))

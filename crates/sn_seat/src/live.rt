@@ -155,8 +155,8 @@ impl<'a, G: Gate> Live<'a, G> {
         self.seat.settle_lanes(self.shared)
     }
 
-    /// Gives the packet at a place to the group in a reclamation, where no gate stands. Where the group has no room, or the packet
-    /// is worn, it stays held at the same place, and isn't free.
+    /// Gives the packet at a place to the group in a reclamation, where no gate stands. Where the group has no room, or the
+    /// packet is worn, it stays held at the same place, and isn't free.
     ///
     /// # Errors
     /// Want of memory.

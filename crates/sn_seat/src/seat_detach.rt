@@ -40,8 +40,8 @@ impl Seat {
         self.ledger.reserve()
     }
 
-    /// The closing end takes the next packet out, which becomes free, or stays held and not free. False where nothing was left: the
-    /// end is out then.
+    /// The closing end takes the next packet out, which becomes free, or stays held and not free. False where nothing was left:
+    /// the end is out then.
     fn drain(&mut self, shared: &Shared, lane: u32, side: Side, freeing: bool) -> Result<bool, Halt>
         requires fits { Fits self.old shared.now }
         requires end { HasEnd self.old.ledger.ends.items lane side }

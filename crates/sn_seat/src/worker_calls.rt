@@ -19,7 +19,8 @@ fn channel_of(shared: &Shared, worker: u32) -> &Channel
 }
 
 impl Seat {
-    ghost use Rattle.std.specs.Prelude.{◌≡◌, ◌≤◌, ◌<◌, [], IfNone, IfOk, IfSome, IsOk, IsSome, List, true, None, OnErr, OnOk, Some};
+    ghost use Rattle.std.specs.Prelude.{◌≡◌, ◌≤◌, ◌<◌, [], IfNone, IfOk, IfSome, IsOk, IsSome, List, true, None, OnErr};
+    ghost use Rattle.std.specs.Prelude.{OnOk, Some};
     ghost use Rattle.std.specs.Prelude.{◌≢◌, ◌^◌, All, length, slice_get, ℕ};
     ghost use Rattle.sn_packet.specs.Hold.{at_of};
     ghost use Rattle.sn_packet.specs.Packet.{is_worn};
@@ -152,8 +153,8 @@ impl Seat {
         Ok(gave)
     }
 
-    /// Gives the packet at a place to the group in a reclamation, where no gate stands. Where the group has no room, or the packet
-    /// is worn, it stays held at the same place, and isn't free.
+    /// Gives the packet at a place to the group in a reclamation, where no gate stands. Where the group has no room, or the
+    /// packet is worn, it stays held at the same place, and isn't free.
     ///
     /// # Errors
     /// Want of memory.

@@ -28,3 +28,21 @@ loop-round-preserved c =
       lent = same_name _ _ _ _ sent.lent ∙ before.lent;
       other_lent = gave.lent ∙ (same_name _ _ _ _ came.lent ∙ before.other_lent);
     }
+
+pub returns-in_err-send_round-clause-lent : goal.returns-in_err-send_round-clause-lent
+returns-in_err-send_round-clause-lent c = same_name _ _ _ _ c.in_err-send_round.ensures.lent ∙ c.loop-round.invariant.lent
+
+pub returns-in_err-receive_round-clause-lent : goal.returns-in_err-receive_round-clause-lent
+returns-in_err-receive_round-clause-lent c = same_name _ _ _ _ c.in_ok-send_round.ensures.lent ∙ c.loop-round.invariant.lent
+
+pub returns-in_err-receive_round-clause-other_lent : goal.returns-in_err-receive_round-clause-other_lent
+returns-in_err-receive_round-clause-other_lent c =
+    same_name _ _ _ _ c.in_err-receive_round.ensures.lent ∙ c.loop-round.invariant.other_lent
+
+pub returns-in_err-give_back-clause-lent : goal.returns-in_err-give_back-clause-lent
+returns-in_err-give_back-clause-lent c = same_name _ _ _ _ c.in_ok-send_round.ensures.lent ∙ c.loop-round.invariant.lent
+
+pub returns-in_err-give_back-clause-other_lent : goal.returns-in_err-give_back-clause-other_lent
+returns-in_err-give_back-clause-other_lent c =
+    c.in_err-give_back.ensures.lent
+    ∙ (same_name _ _ _ _ c.in_ok-receive_round.ensures.lent ∙ c.loop-round.invariant.other_lent)

@@ -43,19 +43,23 @@ returns-in_err-left-clause-leaves c = leaves_then c.loop-left.invariant.leaves c
 pub returns-clause-reads : goal.returns-clause-reads
 returns-clause-reads c =
     let caps = captures_of c.args.shared.now in
-    ended (seat_tray caps c.args.seat.now) (seat_tray caps c.loop-left.seat) (seat_tray caps c.note.new.self) c.note.result (λ e. refl) c.loop-left.invariant.repeats c.loop-left.invariant.leaves
+    ended (seat_tray caps c.args.seat.now) (seat_tray caps c.loop-left.seat) (seat_tray caps c.note.new.self) c.note.result
+    (λ e. refl) c.loop-left.invariant.repeats c.loop-left.invariant.leaves
     (on_ok_then c.note.result (λ noted. noted caps) c.note.ensures.noted)
     (on_err_then c.note.result (λ refused. refused caps) c.note.ensures.refused)
 
 pub returns-clause-leaves : goal.returns-clause-leaves
 returns-clause-leaves c =
     let caps = captures_of c.args.shared.now in
-    ended_leaves (seat_tray caps c.args.seat.now) (seat_tray caps c.loop-left.seat) (seat_tray caps c.note.new.self) c.note.result c.loop-left.invariant.leaves
+    ended_leaves (seat_tray caps c.args.seat.now) (seat_tray caps c.loop-left.seat) (seat_tray caps c.note.new.self) c.note.result
+    c.loop-left.invariant.leaves
     (on_ok_then c.note.result (λ noted. noted caps) c.note.ensures.noted)
     (on_err_then c.note.result (λ refused. refused caps) c.note.ensures.refused)
 
 pub returns-clause-used : goal.returns-clause-used
 returns-clause-used c =
-    on_ok_then c.note.result (λ noted. λ place.
-    ap (λ used. used place) c.note.ensures.used ∙ nothing_left c.loop-left.left (sym c.is_some.ensures ∙ c.loop-left-test.false) c.loop-left.invariant.walks place)
+    let none = sym c.is_some.ensures ∙ c.loop-left-test.false in
+    on_ok_then c.note.result
+    (λ noted. λ place.
+    ap (λ used. used place) c.note.ensures.used ∙ nothing_left c.loop-left.left none c.loop-left.invariant.walks place)
     c.note.ensures.noted

@@ -16,31 +16,34 @@ returns-in_err-give_back-clause-reads c =
 
 pub returns-in-Done-clause-reads : goal.returns-in-Done-clause-reads
 returns-in-Done-clause-reads c =
+    let t = seat_tray (captures_of c.args.shared.now) c.args.seat.now in
     let p = packet_at (seat_used c.args.seat.now) c.args.place in
-    done_reads (seat_tray (captures_of c.args.shared.now) c.args.seat.now) _ (λ e. refl) p
-    (noted_as (seat_tray (captures_of c.args.shared.now) c.args.seat.now) {kept = Done} p c.in_ok-give_back.ensures.noted c.in-Done.is)
+    done_reads t _ (λ e. refl) p (noted_as t {kept = Done} p c.in_ok-give_back.ensures.noted c.in-Done.is)
 
 pub free-requires : goal.free-requires
 free-requires c =
-    subst (λ u. IsSome (u c.args.place)) (sym (used_full c.args.place c.in_ok-give_back.ensures.used c.in-Full.is)) c.requires.place
+    let same = used_full c.args.place c.in_ok-give_back.ensures.used c.in-Full.is in
+    subst (λ u. IsSome (u c.args.place)) (sym same) c.requires.place
 
 pub returns-in-Full-clause-reads : goal.returns-in-Full-clause-reads
 returns-in-Full-clause-reads c =
     let caps = captures_of c.args.shared.now in
+    let t = seat_tray caps c.args.seat.now in
     let p = packet_at (seat_used c.args.seat.now) c.args.place in
     let gave = c.in_ok-give_back.ensures in
-    full_reads (seat_tray caps c.args.seat.now) _ (λ e. refl) p
-    (freed_after (seat_tray caps c.args.seat.now) (seat_tray caps c.give_back.new.self) c.args.place (gave_entry p Full) (c.free.ensures.tray caps) (used_full c.args.place gave.used c.in-Full.is)
-    (noted_as (seat_tray caps c.args.seat.now) {kept = Full} p gave.noted c.in-Full.is))
+    let now = freed_after t (seat_tray caps c.give_back.new.self) c.args.place (gave_entry p Full) (c.free.ensures.tray caps)
+    (used_full c.args.place gave.used c.in-Full.is) (noted_as t {kept = Full} p gave.noted c.in-Full.is) in
+    full_reads t _ (λ e. refl) p now
 
 pub returns-in-Full-clause-one_more : goal.returns-in-Full-clause-one_more
 returns-in-Full-clause-one_more c =
     let caps = captures_of c.args.shared.now in
+    let t = seat_tray caps c.args.seat.now in
     let p = packet_at (seat_used c.args.seat.now) c.args.place in
     let gave = c.in_ok-give_back.ensures in
-    one_more (seat_tray caps c.args.seat.now) {v = seat_tray caps c.free.new.self} (name_of p) (gave_entry p Full)
-    (freed_after (seat_tray caps c.args.seat.now) (seat_tray caps c.give_back.new.self) c.args.place (gave_entry p Full) (c.free.ensures.tray caps) (used_full c.args.place gave.used c.in-Full.is)
-    (noted_as (seat_tray caps c.args.seat.now) {kept = Full} p gave.noted c.in-Full.is))
+    one_more t {v = seat_tray caps c.free.new.self} (name_of p) (gave_entry p Full)
+    (freed_after t (seat_tray caps c.give_back.new.self) c.args.place (gave_entry p Full) (c.free.ensures.tray caps)
+    (used_full c.args.place gave.used c.in-Full.is) (noted_as t {kept = Full} p gave.noted c.in-Full.is))
 
 pub returns-in-Full-clause-held : goal.returns-in-Full-clause-held
 returns-in-Full-clause-held c = λ q differs.
@@ -49,33 +52,38 @@ returns-in-Full-clause-held c = λ q differs.
 pub returns-in-Full-clause-leaves : goal.returns-in-Full-clause-leaves
 returns-in-Full-clause-leaves c =
     let caps = captures_of c.args.shared.now in
+    let t = seat_tray caps c.args.seat.now in
     let p = packet_at (seat_used c.args.seat.now) c.args.place in
     let gave = c.in_ok-give_back.ensures in
-    leaves_freed (seat_tray caps c.args.seat.now) {v = seat_tray caps c.free.new.self} (name_of p) (gave_entry p Full)
-    (freed_after (seat_tray caps c.args.seat.now) (seat_tray caps c.give_back.new.self) c.args.place (gave_entry p Full) (c.free.ensures.tray caps) (used_full c.args.place gave.used c.in-Full.is)
-    (noted_as (seat_tray caps c.args.seat.now) {kept = Full} p gave.noted c.in-Full.is))
+    leaves_freed t {v = seat_tray caps c.free.new.self} (name_of p) (gave_entry p Full)
+    (freed_after t (seat_tray caps c.give_back.new.self) c.args.place (gave_entry p Full) (c.free.ensures.tray caps)
+    (used_full c.args.place gave.used c.in-Full.is) (noted_as t {kept = Full} p gave.noted c.in-Full.is))
 
 pub free-requires-in-Worn : goal.free-requires-in-Worn
 free-requires-in-Worn c =
-    subst (λ u. IsSome (u c.args.place)) (sym (used_worn c.args.place c.in_ok-give_back.ensures.used c.in-Worn.is)) c.requires.place
+    let same = used_worn c.args.place c.in_ok-give_back.ensures.used c.in-Worn.is in
+    subst (λ u. IsSome (u c.args.place)) (sym same) c.requires.place
 
 pub returns-in-Worn-clause-reads : goal.returns-in-Worn-clause-reads
 returns-in-Worn-clause-reads c =
     let caps = captures_of c.args.shared.now in
+    let t = seat_tray caps c.args.seat.now in
     let p = packet_at (seat_used c.args.seat.now) c.args.place in
     let gave = c.in_ok-give_back.ensures in
-    worn_reads (seat_tray caps c.args.seat.now) _ (λ e. refl) p (gave.worn ∙ ap is_worn_gave c.in-Worn.is)
-    (freed_after (seat_tray caps c.args.seat.now) (seat_tray caps c.give_back.new.self) c.args.place (gave_entry p Worn) (c.free-in-Worn.ensures.tray caps)
-    (used_worn c.args.place gave.used c.in-Worn.is) (noted_as (seat_tray caps c.args.seat.now) {kept = Worn} p gave.noted c.in-Worn.is))
+    let now = freed_after t (seat_tray caps c.give_back.new.self) c.args.place (gave_entry p Worn)
+    (c.free-in-Worn.ensures.tray caps) (used_worn c.args.place gave.used c.in-Worn.is)
+    (noted_as t {kept = Worn} p gave.noted c.in-Worn.is) in
+    worn_reads t _ (λ e. refl) p (gave.worn ∙ ap is_worn_gave c.in-Worn.is) now
 
 pub returns-in-Worn-clause-one_more : goal.returns-in-Worn-clause-one_more
 returns-in-Worn-clause-one_more c =
     let caps = captures_of c.args.shared.now in
+    let t = seat_tray caps c.args.seat.now in
     let p = packet_at (seat_used c.args.seat.now) c.args.place in
     let gave = c.in_ok-give_back.ensures in
-    one_more (seat_tray caps c.args.seat.now) {v = seat_tray caps c.free-in-Worn.new.self} (name_of p) (gave_entry p Worn)
-    (freed_after (seat_tray caps c.args.seat.now) (seat_tray caps c.give_back.new.self) c.args.place (gave_entry p Worn) (c.free-in-Worn.ensures.tray caps)
-    (used_worn c.args.place gave.used c.in-Worn.is) (noted_as (seat_tray caps c.args.seat.now) {kept = Worn} p gave.noted c.in-Worn.is))
+    one_more t {v = seat_tray caps c.free-in-Worn.new.self} (name_of p) (gave_entry p Worn)
+    (freed_after t (seat_tray caps c.give_back.new.self) c.args.place (gave_entry p Worn) (c.free-in-Worn.ensures.tray caps)
+    (used_worn c.args.place gave.used c.in-Worn.is) (noted_as t {kept = Worn} p gave.noted c.in-Worn.is))
 
 pub returns-in-Worn-clause-held : goal.returns-in-Worn-clause-held
 returns-in-Worn-clause-held c = λ q differs.
@@ -84,9 +92,9 @@ returns-in-Worn-clause-held c = λ q differs.
 pub returns-in-Worn-clause-leaves : goal.returns-in-Worn-clause-leaves
 returns-in-Worn-clause-leaves c =
     let caps = captures_of c.args.shared.now in
+    let t = seat_tray caps c.args.seat.now in
     let p = packet_at (seat_used c.args.seat.now) c.args.place in
     let gave = c.in_ok-give_back.ensures in
-    leaves_freed (seat_tray caps c.args.seat.now) {v = seat_tray caps c.free-in-Worn.new.self} (name_of p)
-    (gave_entry p Worn)
-    (freed_after (seat_tray caps c.args.seat.now) (seat_tray caps c.give_back.new.self) c.args.place (gave_entry p Worn) (c.free-in-Worn.ensures.tray caps)
-    (used_worn c.args.place gave.used c.in-Worn.is) (noted_as (seat_tray caps c.args.seat.now) {kept = Worn} p gave.noted c.in-Worn.is))
+    leaves_freed t {v = seat_tray caps c.free-in-Worn.new.self} (name_of p) (gave_entry p Worn)
+    (freed_after t (seat_tray caps c.give_back.new.self) c.args.place (gave_entry p Worn) (c.free-in-Worn.ensures.tray caps)
+    (used_worn c.args.place gave.used c.in-Worn.is) (noted_as t {kept = Worn} p gave.noted c.in-Worn.is))

@@ -17,5 +17,7 @@ returns-clause-walks c =
     let is : c.in-Some.from ≡ c.args.place + 1 = search rules in
     let gave = c.in_ok-give_at.ensures in
     let next = c.held.ensures in
-    walk_from (seat_hold c.args.seat.now) (seat_hold c.give_at.new.seat) (seat_used c.args.seat.now) (seat_used c.give_at.new.seat)
-    c.args.place c.requires.walks gave.used gave.held c.in-Some.from is c.held.result next.held next.from next.least next.none
+    let s = c.args.seat.now in
+    let later = c.give_at.new.seat in
+    walk_from (seat_hold s) (seat_hold later) (seat_used s) (seat_used later) c.args.place c.requires.walks gave.used gave.held
+    c.in-Some.from is c.held.result next.held next.from next.least next.none

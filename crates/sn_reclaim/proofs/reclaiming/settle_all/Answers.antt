@@ -9,17 +9,21 @@ settle_lanes-requires-clause-none c = ap (λ (t : Tray). t.free) (c.settle.ensur
 
 pub returns-in-Ok-settle_lanes-clause-reads : goal.returns-in-Ok-settle_lanes-clause-reads
 returns-in-Ok-settle_lanes-clause-reads c =
-    settled_from (seat_tray (captures_of c.args.shared.now) c.args.seat.now) (c.settle.ensures.tray (captures_of c.args.shared.now)) c.in-Ok-settle_lanes.ensures.reads
+    let caps = captures_of c.args.shared.now in
+    settled_from (seat_tray caps c.args.seat.now) (c.settle.ensures.tray caps) c.in-Ok-settle_lanes.ensures.reads
 
 pub returns-in-Ok-settle_lanes-clause-leaves : goal.returns-in-Ok-settle_lanes-clause-leaves
 returns-in-Ok-settle_lanes-clause-leaves c =
-    files_from (seat_tray (captures_of c.args.shared.now) c.args.seat.now) (c.settle.ensures.tray (captures_of c.args.shared.now)) c.in-Ok-settle_lanes.ensures.leaves
+    let caps = captures_of c.args.shared.now in
+    files_from (seat_tray caps c.args.seat.now) (c.settle.ensures.tray caps) c.in-Ok-settle_lanes.ensures.leaves
 
 pub returns-in-Err-settle_lanes-clause-reads : goal.returns-in-Err-settle_lanes-clause-reads
 returns-in-Err-settle_lanes-clause-reads c =
-    settled_from (seat_tray (captures_of c.args.shared.now) c.args.seat.now) (c.settle.ensures.tray (captures_of c.args.shared.now))
+    let caps = captures_of c.args.shared.now in
+    settled_from (seat_tray caps c.args.seat.now) (c.settle.ensures.tray caps)
     (refused_as c.in-Err-settle_lanes.ensures.memory c.in-Err-settle_lanes.ensures.reads)
 
 pub returns-in-Err-settle_lanes-clause-leaves : goal.returns-in-Err-settle_lanes-clause-leaves
 returns-in-Err-settle_lanes-clause-leaves c =
-    files_from (seat_tray (captures_of c.args.shared.now) c.args.seat.now) (c.settle.ensures.tray (captures_of c.args.shared.now)) c.in-Err-settle_lanes.ensures.leaves
+    let caps = captures_of c.args.shared.now in
+    files_from (seat_tray caps c.args.seat.now) (c.settle.ensures.tray caps) c.in-Err-settle_lanes.ensures.leaves

@@ -12,7 +12,8 @@ returns-in-None c =
 
 pub index-requires : goal.index-requires
 index-requires c =
-    let within = found_within c.args.number c.args.side c.args.ledger.now.ends.items c.in-Some.place (sym c.find_end.ensures ∙ c.in-Some.is) in
+    let within = found_within c.args.number c.args.side c.args.ledger.now.ends.items c.in-Some.place
+    (sym c.find_end.ensures ∙ c.in-Some.is) in
     search rules
 
 pub returns-in-Some : goal.returns-in-Some

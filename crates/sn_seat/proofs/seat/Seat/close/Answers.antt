@@ -40,4 +40,5 @@ returns-clause-reads c =
     let now = tray_same s.stops.items s.roster caps _ _ _ _ 0 0 _ _ _ _ s.counters s.files.items
     (ap (λ w. w.ends) l.wiring ∙ ap (λ e. wires e.items) same.ends) (l.entries ∙ ap (λ es. es ++ entry ∷ []) same.entries) refl
     (ap frees_of (l.hold ∙ same.hold)) (l.ends ∙ ap (λ e. ends_in e.items) same.ends) in
-    close_reads (phase_by c.args.freeing) c.args.lane c.args.side c.look_left.result l.few refl (rw (sym now) c.empty.ensures.reads)
+    close_reads (phase_by c.args.freeing) c.args.lane c.args.side c.look_left.result l.few refl
+    (rw (sym now) c.empty.ensures.reads)

@@ -43,7 +43,8 @@ returns-in-None-clause-reads c =
     let l = c.in-None.ensures in
     let now = tray_same m.stops.items m.roster caps _ _ _ _ 0 0 _ _ _ _ m.counters m.files.items
     (ap (λ w. w.ends) l.wiring) l.step.0 refl (ap frees_of l.step.1) l.ends in
-    rw (sym (c.room_for_packet.ensures.tray caps)) (drain_ended (phase_by c.args.freeing) (seat_tray caps m) _ c.args.lane c.args.side refl now)
+    rw (sym (c.room_for_packet.ensures.tray caps))
+    (drain_ended (phase_by c.args.freeing) (seat_tray caps m) _ c.args.lane c.args.side refl now)
 
 pub returns-in-None-clause-one_more : goal.returns-in-None-clause-one_more
 returns-in-None-clause-one_more c =
@@ -101,7 +102,8 @@ returns-else-not-freeing-clause-closing c =
 pub returns-else-not-freeing-clause-used : goal.returns-else-not-freeing-clause-used
 returns-else-not-freeing-clause-used c =
     let came = c.in-Some.ensures.step.came in
-    λ freeing. gained _ _ _ _ c.in-Some.ensures.step.packet came.fresh came.used c.free.ensures.used ∙ c.room_for_packet.ensures.used
+    λ freeing. gained _ _ _ _ c.in-Some.ensures.step.packet came.fresh came.used c.free.ensures.used
+    ∙ c.room_for_packet.ensures.used
 
 pub returns-else-not-freeing-clause-leaves : goal.returns-else-not-freeing-clause-leaves
 returns-else-not-freeing-clause-leaves c =
