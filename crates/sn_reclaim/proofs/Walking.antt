@@ -6,7 +6,7 @@ use Rattle.std.specs.Prelude.{IfNone, IfSome, is_some}
 use Rattle.sn_packet.specs.Hold.{Held, at_of, put_at}
 use Rattle.sn_packet.proofs.Puts.{put_at_other, put_at_same}
 use Rattle.sn_app.specs.World.{Used}
-use Rattle.sn_reclaim.specs.Lefts.{IsLeft, IsPast, Walks}
+use Rattle.sn_reclaim.specs.Lefts.{Walks}
 
 some_is : (x y : ℕ) → Some x ≡ Some y → x ≡ y
 some_is x y e = cc

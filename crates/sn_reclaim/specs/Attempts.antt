@@ -1,5 +1,5 @@
 -- What an attempt of a reclamation reads and does.
-use Rattle.std.specs.Prelude.{ℕ, ◌==◌, Bool, true, false, if◌then◌else◌, [], Option, Some, None, Result, Ok, Err}
+use Rattle.std.specs.Prelude.{◌==◌, Bool, true, false, if◌then◌else◌, [], Option, Some, None, Result, Ok, Err}
 use Rattle.std.specs.declared.alloc.AllocError.{AllocError}
 use Rattle.sn_journal.specs.HandOvers.{PacketName}
 use Rattle.sn_journal.specs.declared.entry.Entry.{Entry}

@@ -1,7 +1,6 @@
 -- The row of a detach over a seat's trays.
-use Rattle.std.proofs.Common.{◌≡◌, ℕ, suc, ◌+◌, ◌<◌, ◌≤◌, ◌==◌, ◌++◌, ◌∙◌, Bool, true, false, cond, if◌then◌else◌, List}
-use Rattle.std.proofs.Common.{length, Option, Some, None, Result, Ok, Err, refl, sym, ap, subst, arith, append_assoc}
-use Rattle.std.proofs.Common.{length-append}
+use Rattle.std.proofs.Common.{◌≡◌, ℕ, ◌<◌, ◌≤◌, ◌==◌, ◌∙◌, Bool, true, false, cond}
+use Rattle.std.proofs.Common.{Some, None, Result, Ok, Err, refl, sym, ap, subst}
 use Rattle.std.proofs.lemmas.Bool.{and_from, eq-eqb, le-leb, lt-ltb}
 use Rattle.sn_core.specs.declared.events.Side.{Side}
 use Rattle.sn_core.specs.declared.events.Side.TheVariants.{Tx, Rx}
@@ -9,23 +8,21 @@ use Rattle.sn_journal.specs.HandOvers.{PacketName}
 use Rattle.sn_journal.specs.declared.entry.Entry.{Entry}
 use Rattle.sn_journal.specs.declared.entry.Entry.TheVariants.{Detach, Drain, Reset}
 use Rattle.sn_packet.specs.Packet.{highest_turn, most_packets}
-use Rattle.sn_app.specs.Answers.{AnswersCase, OnTray, all_may}
+use Rattle.sn_app.specs.Answers.{OnTray}
 use Rattle.sn_app.specs.Calls.{LeavesOtherEnds}
-use Rattle.sn_app.specs.Desk.{Desk, End, Queue, Tray, after_entry, closing_end, freed, out_end, set_end, with_end}
+use Rattle.sn_app.specs.Desk.{End, Tray, after_entry, closing_end, freed, out_end, set_end, with_end}
 use Rattle.sn_app.specs.Gates.{Gate, Phase, detach, drain_or_reset, drain_release, gate_by, gate_in, load_far, reclaiming, stands}
 use Rattle.sn_app.specs.Gates.{working}
-use Rattle.sn_app.specs.Reader.{Meaning, change_tray, done, go_on, pure, read, repeated, repeated_with}
+use Rattle.sn_app.specs.Reader.{change_tray, pure, read, repeated}
 use Rattle.sn_app.specs.Rows.{a_detach, a_far, close_lane, detach_from, detached, drain_one, drain_or_reset_of, drained}
 use Rattle.sn_app.specs.Rows.{drained_in, row_detach}
 use Rattle.sn_app.specs.Words.{is_closer, is_held_by, is_up_in, is_word}
 use Rattle.sn_app.specs.declared.end_state.EndState.{EndState}
 use Rattle.sn_app.specs.declared.end_state.EndState.TheVariants.{Out, Up}
 use Rattle.sn_app.specs.declared.halt.Halt.{Halt}
-use Rattle.sn_app.specs.declared.halt.Halt.TheVariants.{OutOfMemory}
 use Rattle.sn_app.proofs.OnTrays.{tray_bind, tray_changed, tray_fail, tray_pure}
 use Rattle.sn_app.proofs.OtherEnds.{only_end, set_end_twice}
-use Rattle.sn_app.proofs.Playing.{desk}
-use Rattle.sn_app.proofs.Readings.{all_may-append, answers_at, answers_look, stays_then}
+use Rattle.sn_app.proofs.Readings.{answers_at, answers_look}
 use Rattle.sn_seat.specs.LaneSteps.{FoundAs, far_entry_of}
 use Rattle.sn_seat.specs.Settling.{leaving, phase_by}
 use Rattle.sn_seat.proofs.AttachRows.{assoc_at}

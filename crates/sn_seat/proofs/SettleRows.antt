@@ -1,10 +1,8 @@
 -- The settling of ends in a reclamation, over a seat's trays.
 use Rattle.std.proofs.Common.{◌≡◌, ◌≢◌, ℕ, suc, ◌+◌, ◌-◌, ◌<◌, ◌≤◌, ◌==◌, ◌&&◌, ◌||◌, ◌∙◌, Bool, true, false, cond, List, [], ◌∷◌}
-use Rattle.std.proofs.Common.{length, Some, None, IsTrue, Result, Ok, Err, refl, sym, ap, subst, arith, inl, inr}
-use Rattle.std.proofs.lemmas.Bool.{eq-eqb}
+use Rattle.std.proofs.Common.{length, None, Result, Ok, Err, refl, sym, ap, subst, arith, inl, inr}
 use Rattle.std.proofs.lemmas.Bool.Decides.{eqb_tells}
 use Rattle.std.specs.List.{position}
-use Rattle.std.specs.Prelude.{is_some, slice_index_or}
 use Rattle.sn_channel.specs.Ends.{ChannelId}
 use Rattle.sn_core.specs.declared.events.Side.{Side}
 use Rattle.sn_core.specs.declared.events.Side.TheVariants.{Tx, Rx}
@@ -12,15 +10,13 @@ use Rattle.sn_group.specs.Seats.{GroupState}
 use Rattle.sn_interlink.specs.Ends.{LaneId}
 use Rattle.sn_app.specs.Answers.{OnTray}
 use Rattle.sn_app.specs.Calls.{LeavesOtherEnds}
-use Rattle.sn_app.specs.Desk.{End, Tray, roster_of, same_side, set_end}
+use Rattle.sn_app.specs.Desk.{End, Tray, roster_of, set_end}
 use Rattle.sn_app.specs.Gates.{reclaiming}
-use Rattle.sn_app.specs.Reader.{Meaning}
 use Rattle.sn_app.specs.Rows.{close_lane, row_detach}
 use Rattle.sn_app.specs.declared.end_state.EndState.{EndState}
 use Rattle.sn_app.specs.declared.end_state.EndState.TheVariants.{Out, Up, Closing}
 use Rattle.sn_app.specs.declared.halt.Halt.{Halt}
-use Rattle.sn_app.specs.declared.halt.Halt.TheVariants.{OutOfMemory}
-use Rattle.sn_app.proofs.OnTrays.{Leads, leads_start, tray_bind, tray_fail, tray_lost, tray_pure}
+use Rattle.sn_app.proofs.OnTrays.{Leads, leads_start, tray_bind, tray_fail, tray_pure}
 use Rattle.sn_app.proofs.Readings.{answers_look}
 use Rattle.sn_seat.specs.Fitting.{Belongs, Bond}
 use Rattle.sn_seat.specs.SeatEnds.{Numbered, desk_end, end_in, ends_in, has_wire, is_at, wires}

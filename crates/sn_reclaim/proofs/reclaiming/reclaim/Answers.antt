@@ -1,5 +1,4 @@
 use Rattle.std.proofs.Common.{rules, ◌≡◌, ◌∙◌, Err, ap}
-use Rattle.sn_app.specs.Desk.{Tray}
 use Rattle.sn_reclaim.specs.Attempts.{attempt}
 use Rattle.sn_reclaim.proofs.Attempting.{attempt_reads}
 use Rattle.sn_reclaim.proofs.Givings.{lost_files}

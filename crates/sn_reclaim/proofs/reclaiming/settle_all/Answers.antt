@@ -1,4 +1,4 @@
-use Rattle.std.proofs.Common.{◌≡◌, ap}
+use Rattle.std.proofs.Common.{ap}
 use Rattle.sn_app.specs.Desk.{Tray}
 use Rattle.sn_seat.specs.Trays.{captures_of, seat_tray}
 use Rattle.sn_reclaim.proofs.Attempting.{files_from, refused_as, settled_from}

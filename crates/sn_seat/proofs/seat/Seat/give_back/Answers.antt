@@ -1,9 +1,7 @@
 use Rattle.std.proofs.Common.{rules, refl, sym, ap, subst, ◌≡◌, ◌∙◌, ◌∷◌, ◌++◌, [], Err, IsSome}
-use Rattle.sn_packet.specs.Hold.{used_of}
 use Rattle.sn_packet.specs.Packet.{is_worn}
 use Rattle.sn_app.specs.Desk.{after_entry, name_of}
 use Rattle.sn_app.specs.World.{packet_at}
-use Rattle.sn_app.proofs.OnTrays.{leaves_then}
 use Rattle.sn_seat.specs.GiveSteps.{gave_entry}
 use Rattle.sn_seat.specs.SeatEnds.{ends_in, wires}
 use Rattle.sn_seat.specs.Settling.{gives_back}

@@ -1,4 +1,4 @@
-use Rattle.std.proofs.Common.{◌≡◌, ◌∙◌, ◌<◌, Err, ℕ, arith, refl, rules}
+use Rattle.std.proofs.Common.{◌≡◌, ◌∙◌, Err, arith, refl, rules}
 use Rattle.sn_seat.specs.Trays.{captures_of, seat_tray}
 use Rattle.sn_seat.proofs.SettleRows.{files_stay, settled_more, settles_done, settles_fail, settles_next, settles_start}
 use Rattle.sn_seat.proofs.seat.Seat.settle_first.Goals as goal

@@ -1,6 +1,5 @@
 use Rattle.std.proofs.Common.{rules, ◌≡◌, Err}
 use Rattle.sn_core.specs.declared.events.Side.TheVariants.{Rx, Tx}
-use Rattle.sn_seat.specs.Trays.{captures_of, seat_tray}
 use Rattle.sn_seat.proofs.Outcomes.{on_ok_then}
 use Rattle.sn_seat.proofs.SettleRows.{both_out, lane_fails, lane_reads, leaves_lane, leaves_lane_end}
 use Rattle.sn_seat.proofs.seat.Seat.settle_lane.Goals as goal

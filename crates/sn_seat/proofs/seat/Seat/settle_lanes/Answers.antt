@@ -1,4 +1,4 @@
-use Rattle.std.proofs.Common.{◌≡◌, ◌∙◌, ap, length, map, refl, subst, sym}
+use Rattle.std.proofs.Common.{◌∙◌, ap, length, map, refl, subst, sym}
 use Rattle.sn_app.specs.Desk.{name_of}
 use Rattle.sn_seat.specs.Fitting.{Belongs, Bond}
 use Rattle.sn_seat.specs.Trays.{bond_of}
