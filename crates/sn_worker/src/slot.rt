@@ -1,14 +1,13 @@
 //! A slot: a worker with its seat, round by round.
 ghost use Rattle.std.specs.Prelude.{◌≡◌, ◌<◌, ℕ, All, [], false, if◌then◌else◌, IfOk, List, OnOk, Some, slice_get};
 ghost use Rattle.sn_actions.specs.PlainForms.{empty_form};
-ghost use Rattle.sn_app.specs.World.{Used, desk_of, world};
+ghost use Rattle.sn_app.specs.World.{desk_of, world};
 ghost use Rattle.sn_channel.specs.Ends.{IsSaid, last_said};
-ghost use Rattle.sn_scenario.specs.Plans.{plan_of, roster_of};
 ghost use Rattle.sn_seat.specs.Fitting.{met_again};
 ghost use Rattle.sn_seat.specs.Told.{of_channel};
 ghost use Rattle.sn_seat.specs.Trays.{captures_of};
 ghost use Rattle.sn_worker.specs.Ends.{left_of};
-ghost use Rattle.sn_worker.specs.Plans.{CanTake, FindsAll, Serves};
+ghost use Rattle.sn_worker.specs.Plans.{CanTake, FindsAll};
 ghost use Rattle.sn_worker.specs.SlotViews.{CanRun, RoundRead, SameSlot, SlotFits, slot_bond, slot_desk, slot_life, slot_plan};
 ghost use Rattle.sn_worker.specs.SlotViews.{slot_seat, slot_spent, slot_state, slot_tray, slot_used};
 ghost use Rattle.sn_worker.specs.Slots.{new_slot_life};
@@ -61,6 +60,7 @@ impl Slot {
         ensures seat { slot_seat result ≡ seat }
         ensures plan { slot_plan result ≡ plan.items }
         ensures breaths { result.breaths ≡ breaths }
+        ensures restarts { result.restarts ≡ restarts }
         ensures keep { result.keep ≡ keep }
         ensures life { (captures : List (List ℕ)) → slot_life captures result ≡ new_slot_life }
         ensures desk { (captures : List (List ℕ)) → slot_desk captures result

@@ -36,6 +36,7 @@ impl Slot {
         ensures seat { IfOk result (λ slot. slot_seat slot ≡ seat) }
         ensures plan { IfOk result (λ slot. slot_plan slot ≡ plan_of number scenario.now) }
         ensures breaths { IfOk result (λ slot. slot.breaths ≡ scenario.now.settings.breaths) }
+        ensures restarts { IfOk result (λ slot. slot.restarts ≡ scenario.now.settings.restarts) }
         ensures keep { IfOk result (λ slot. slot.keep ≡ keep_of scenario.now.settings) }
         ensures life { IfOk result (λ slot. (captures : List (List ℕ)) → slot_life captures slot ≡ new_slot_life) }
         ensures desk { IfOk result (λ slot. (captures : List (List ℕ)) → slot_desk captures slot
