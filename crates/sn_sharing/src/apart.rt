@@ -1,5 +1,5 @@
 //! Seats taken apart, once their workers are done.
-ghost use Rattle.std.specs.Prelude.{◌≡◌, ◌∷◌, ◌++◌, [], IfOk, OnOk};
+ghost use Rattle.std.specs.Prelude.{[], IfOk, OnOk};
 ghost use Rattle.sn_sharing.specs.Columns.{Adds, AreParts};
 
 use sn_app::{Counters, Output};

@@ -1,8 +1,5 @@
 //! How a run's shared objects close, once all its workers are closed.
-ghost use Rattle.std.specs.Prelude.{◌≡◌, ◌+◌, ℕ, IfOk, length, map};
-ghost use Rattle.sn_group.specs.Cells.{named, weigh};
-ghost use Rattle.sn_group.specs.Receipts.{logs_of};
-ghost use Rattle.sn_group.specs.Views.{all_gained, all_given};
+ghost use Rattle.std.specs.Prelude.{◌≡◌, IfOk, length, map};
 ghost use Rattle.sn_scenario.specs.Scenarios.{AreLanes};
 ghost use Rattle.sn_sharing.specs.Bonds.{AreBonded};
 ghost use Rattle.sn_sharing.specs.Closings.{AreFifo, AreFree, AreHeld, AreKept, AreLogs, AreOut, IsBalanced};

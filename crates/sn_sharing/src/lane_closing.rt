@@ -1,5 +1,5 @@
 //! The closing of interlinks whose ends closed workers left.
-ghost use Rattle.std.specs.Prelude.{◌≡◌, ◌≢◌, ℕ, IfOk, OnOk, length};
+ghost use Rattle.std.specs.Prelude.{◌≡◌, ◌≢◌, ℕ, IfOk, length};
 ghost use Rattle.sn_core.specs.declared.events.Side.TheVariants.{Rx, Tx};
 ghost use Rattle.sn_interlink.specs.Ends.{shown_log};
 ghost use Rattle.sn_interlink.specs.declared.view.EndState.TheVariants.{Out};

@@ -1,8 +1,6 @@
 //! Packets and interlinks of a run that opens, and the ends of interlinks that each worker gets.
-ghost use Rattle.std.specs.Prelude.{◌≡◌, ◌<◌, ◌≤◌, ◌++◌, ◌∷◌, [], All, IfOk, OnOk, length, map, slice_set};
+ghost use Rattle.std.specs.Prelude.{◌≡◌, ◌<◌, ◌≤◌, ◌++◌, ◌∷◌, [], IfOk, OnOk, length, map, slice_set};
 ghost use Rattle.sn_group.specs.Cells.{named};
-ghost use Rattle.sn_interlink.specs.Ends.{new_lane_end};
-ghost use Rattle.sn_core.specs.declared.events.Side.TheVariants.{Rx, Tx};
 ghost use Rattle.sn_scenario.specs.Scenarios.{AreLanes};
 ghost use Rattle.sn_sharing.specs.Laying.{AddsLane, AreLaid, ends_at, rxs, txs};
 ghost use Rattle.sn_sharing.specs.Pools.{pool_packets};

@@ -1,5 +1,5 @@
 //! The seats of a run's workers, each with a channel of its own.
-ghost use Rattle.std.specs.Prelude.{◌≡◌, ◌<◌, ◌≤◌, ◌^◌, ℕ, List, [], IfOk, OnOk, Some, None, length, slice_get, true};
+ghost use Rattle.std.specs.Prelude.{◌≡◌, ◌<◌, ◌^◌, ℕ, [], IfOk, OnOk, Some, length, slice_get, true};
 ghost use Rattle.sn_group.specs.Seats.{new_seats};
 ghost use Rattle.sn_seat.specs.Openings.{AreNew, IsNewSeat, all_ends};
 ghost use Rattle.sn_seat.specs.declared.ends.Ends.{Ends};
