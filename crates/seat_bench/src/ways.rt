@@ -1,7 +1,7 @@
 //! What the program times: packets from a seat to another, batch by batch.
-ghost use Rattle.std.specs.Prelude.{◌≡◌, ◌≤◌, IfOk, OnOk, length};
+ghost use Rattle.std.specs.Prelude.{◌≡◌, ◌≤◌, IfOk, length};
 ghost use Rattle.sn_core.specs.declared.events.Side.TheVariants.{Rx, Tx};
-ghost use Rattle.sn_seat.specs.Lives.{live_tray, live_used};
+ghost use Rattle.sn_seat.specs.Lives.{live_tray};
 ghost use Rattle.seat_rig.specs.Workers.{HasNames};
 ghost use Rattle.seat_bench.specs.Lines.{CanReceive, CanSend};
 

@@ -1,5 +1,5 @@
 //! A call of a context where it may come, and what is known of the end and of a packet afterwards.
-ghost use Rattle.std.specs.Prelude.{◌≡◌, OnOk, IsTrue};
+ghost use Rattle.std.specs.Prelude.{◌≡◌, OnOk};
 ghost use Rattle.seat_rig.specs.Hands.{Holds};
 
 use sn_app::{Ctx, Halt, Side};
@@ -44,8 +44,7 @@ pub struct Hand {
 }
 
 impl Hand {
-    ghost use Rattle.std.specs.Prelude.{◌≡◌, None, false};
-    ghost use Rattle.std.specs.Prelude.{IsTrue};
+    ghost use Rattle.std.specs.Prelude.{◌≡◌, IsTrue};
     ghost use Rattle.sn_app.specs.Desk.{Tray};
     ghost use Rattle.sn_app.specs.World.{Used};
     ghost use Rattle.seat_rig.specs.Hands.{Holds};

@@ -1,5 +1,5 @@
 //! Shared objects, and new seats over them.
-ghost use Rattle.std.specs.Prelude.{◌≡◌, ◌<◌, ◌≤◌, [], ◌∷◌, IfOk, length};
+ghost use Rattle.std.specs.Prelude.{◌≡◌, ◌≤◌, [], ◌∷◌, IfOk, length};
 ghost use Rattle.sn_core.specs.declared.events.Side.TheVariants.{Rx, Tx};
 ghost use Rattle.sn_group.specs.Seats.{new_seat};
 ghost use Rattle.sn_seat.specs.Openings.{AreNew, IsNewSeat, all_ends};

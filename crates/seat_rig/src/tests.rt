@@ -1,6 +1,6 @@
 //! What no clause says: that where there is memory two seats hand packets over, and what their journals have then.
-ghost use Rattle.std.specs.Prelude.{◌≡◌, ◌≤◌, IfOk, IsTrue, false, true};
-ghost use Rattle.sn_core.specs.declared.events.Side.TheVariants.{Rx, Tx};
+ghost use Rattle.std.specs.Prelude.{◌≡◌, ◌≤◌, IsTrue, false, true};
+ghost use Rattle.sn_core.specs.declared.events.Side.TheVariants.{Rx};
 ghost use Rattle.sn_interlink.specs.declared.view.EndState.TheVariants.{Closing, Out};
 
 use super::*;

@@ -5,7 +5,6 @@ ghost use Rattle.sn_names.specs.declared.class.Class.{Class};
 ghost use Rattle.sn_config.specs.ArgText.{IsArgOf};
 ghost use Rattle.sn_app.specs.Answers.{Stays};
 ghost use Rattle.sn_app.specs.Apps.{AppState, pulls, pushes, reconfigs, stops};
-ghost use Rattle.sn_app.specs.Calls.{SameConstants};
 ghost use Rattle.sn_app.specs.Desk.{Tray};
 ghost use Rattle.sn_app.specs.Ports.{HasInputs, HasOutputs, KeepsRows, SamePorts, in_ports, out_ports, slots_of};
 ghost use Rattle.sn_app.specs.Runs.{Runs, stands_at};

@@ -1,5 +1,5 @@
 //! How a bench allocates: where no packet is free, its script says which ones come.
-ghost use Rattle.std.specs.Prelude.{◌≡◌, ◌≢◌, ◌≤◌, ◌+◌, ◌<◌, ◌∷◌, ◌++◌, [], ℕ, IfErr, IfOk, IfSome, None, Ok, OnOk, Some};
+ghost use Rattle.std.specs.Prelude.{◌≡◌, ◌≢◌, ℕ, IfErr, IfOk, IfSome, None, Ok, OnOk, Some};
 ghost use Rattle.sn_packet.specs.Hold.{used_of};
 ghost use Rattle.sn_app.specs.Answers.{OnTray};
 ghost use Rattle.sn_app.specs.Bench.{first_of, tray_of};

@@ -1,5 +1,5 @@
 //! What a bench does at the ends of its interlinks.
-ghost use Rattle.std.specs.Prelude.{◌≡◌, ◌≢◌, ◌<◌, ◌≤◌, ◌+◌, ℕ, IfOk, IsSome, IsTrue, None, Ok, OnOk, if◌then◌else◌, length};
+ghost use Rattle.std.specs.Prelude.{◌≡◌, ◌≢◌, ◌<◌, ◌+◌, ℕ, IfOk, IsSome, IsTrue, None, Ok, OnOk, if◌then◌else◌, length};
 ghost use Rattle.sn_packet.specs.Hold.{put_at, used_of};
 ghost use Rattle.sn_app.specs.Bench.{Played, ends_of, tray_of};
 ghost use Rattle.sn_app.specs.Calls.{AfterPut, AfterTake, IsFresh, IsUp, Knows, LeavesOtherEnds, known_at, packet_there};

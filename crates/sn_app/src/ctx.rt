@@ -1,6 +1,6 @@
 //! The context that apps run over.
 ghost use base.Stored.{Gv};
-ghost use Rattle.std.specs.Prelude.{◌≡◌, ◌≢◌, ℕ, ◌-◌, ◌<◌, ◌≤◌, false, replicate, take, length, IfOk, IfSome};
+ghost use Rattle.std.specs.Prelude.{◌≡◌, ◌≢◌, ℕ, ◌<◌, ◌≤◌, false, replicate, take, length, IfOk, IfSome};
 ghost use Rattle.std.specs.Prelude.{IfNone, IsSome, IsTrue, None, OnOk, Ok, Some, slice_get};
 ghost use Rattle.sn_packet.specs.Hold.{put_at};
 ghost use Rattle.sn_packet.specs.Packet.{is_worn, most_bytes};

@@ -1,5 +1,5 @@
 //! Both ends of an interlink, as a bench has them.
-ghost use Rattle.std.specs.Prelude.{◌≡◌, ◌+◌, ◌<◌, ◌≤◌, OnOk, length, true};
+ghost use Rattle.std.specs.Prelude.{◌≡◌, ◌<◌, ◌≤◌, OnOk, length, true};
 ghost use Rattle.sn_app.specs.Bench.{end_of, ends_of, lane_at, with_side};
 ghost use Rattle.sn_app.specs.Desk.{all_published, all_released, end_at, set_end, with_known, with_laid, with_taken};
 ghost use Rattle.sn_core.specs.declared.events.Side.TheVariants.{Rx, Tx};

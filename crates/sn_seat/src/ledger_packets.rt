@@ -24,17 +24,15 @@ fn payload_of(mut bytes: Vec<u8>, packet: &Packet) -> Payload
 }
 
 impl Ledger {
-    ghost use Rattle.std.specs.Prelude.{◌≡◌, ◌≢◌, ◌≤◌, ◌<◌, ◌+◌, ◌∷◌, ◌++◌, [], ℕ, vec_capacity, Some, None, IsSome, IfSome};
-    ghost use Rattle.std.specs.Prelude.{IfNone, false};
+    ghost use Rattle.std.specs.Prelude.{◌≡◌, ◌≤◌, ◌<◌, ◌+◌, ◌∷◌, ◌++◌, [], vec_capacity, None, IsSome, false};
     ghost use Rattle.sn_core.specs.declared.events.Side.TheVariants.{Rx, Tx};
-    ghost use Rattle.sn_journal.specs.declared.entry.Entry.TheVariants.{Drain, Dry, Got, Put, Reset, Take};
     ghost use Rattle.sn_packet.specs.Hold.{frees_of, put_at, used_of};
     ghost use Rattle.sn_packet.specs.Packet.{is_worn};
     ghost use Rattle.sn_seat.specs.LaneSteps.{AtEnd, HasEnd, Links, Stands};
     ghost use Rattle.sn_seat.specs.Ledgers.{wiring_of};
     ghost use Rattle.sn_seat.specs.SeatEnds.{ends_in, reach_in};
     ghost use Rattle.sn_app.specs.Calls.{bytes_at};
-    ghost use Rattle.sn_app.specs.Desk.{all_published, all_released, closing_end, out_end, set_end, with_laid, with_taken};
+    ghost use Rattle.sn_app.specs.Desk.{all_published, all_released, set_end, with_laid, with_taken};
     ghost use Rattle.sn_app.specs.World.{packet_at};
     ghost use Rattle.sn_app.specs.declared.end_state.EndState.TheVariants.{Closing, Up};
     ghost use Rattle.sn_seat.specs.PacketSteps.{ClaimStep, DrainStep, TakeStep, drained_end, put_entry};

@@ -20,8 +20,8 @@ pub struct Live<'a, G: Gate> {
 }
 
 impl<'a, G: Gate> Live<'a, G> {
-    ghost use Rattle.std.specs.Prelude.{◌≡◌, ◌≤◌, ◌<◌, [], IfNone, IfOk, IfSome, IsOk, IsSome, None, OnErr, OnOk, length, ℕ};
-    ghost use Rattle.std.specs.Prelude.{◌≢◌, ◌^◌, All, IfErr};
+    ghost use Rattle.std.specs.Prelude.{◌≡◌, ◌≢◌, ◌≤◌, ◌<◌, [], All, IfErr, IfNone, IfOk, IfSome, IsOk, IsSome};
+    ghost use Rattle.std.specs.Prelude.{None, OnErr, OnOk, length, ℕ};
     ghost use Rattle.sn_core.specs.declared.events.Side.{Side};
     ghost use Rattle.sn_packet.specs.Hold.{at_of};
     ghost use Rattle.sn_packet.specs.Packet.{is_worn};

@@ -36,10 +36,9 @@ fn receivers(alloc: Global, ends: Vec<(u32, RxEnd)>) -> Result<Vec<(u32, SeatEnd
 }
 
 impl Ledger {
-    ghost use Rattle.std.specs.Prelude.{◌≡◌, [], IfOk, OnOk};
+    ghost use Rattle.std.specs.Prelude.{◌≡◌, [], IfOk, None, ℕ};
     ghost use Rattle.sn_packet.specs.Hold.{frees_of, used_of};
     ghost use Rattle.sn_seat.specs.Openings.{AreNew, IsNewSeat, all_ends};
-    ghost use Rattle.std.specs.Prelude.{None, ℕ};
 
     /// A ledger of no entries and no packets.
     fn open(
@@ -77,9 +76,7 @@ impl Ledger {
 }
 
 impl Seat {
-    ghost use Rattle.std.specs.Prelude.{◌≡◌, ◌<◌, ◌^◌, ◌∷◌, ◌++◌, [], IfOk, List, None, OnErr, OnOk, length, ℕ};
-    ghost use Rattle.sn_app.specs.Desk.{after_entry};
-    ghost use Rattle.sn_seat.specs.Notes.{IsPlain};
+    ghost use Rattle.std.specs.Prelude.{◌≡◌, ◌<◌, ◌^◌, [], IfOk, List, None, length, ℕ};
     ghost use Rattle.sn_seat.specs.Openings.{AreNew, IsNewSeat, all_ends, new_tray};
     ghost use Rattle.sn_seat.specs.Tellings.{TellsAll};
     ghost use Rattle.sn_seat.specs.Trays.{Fits, bond_of, seat_tray, seat_used};

@@ -1,5 +1,4 @@
 //! A seat taken apart, once its worker is done.
-ghost use Rattle.std.specs.Prelude.{◌≡◌};
 
 use crate::ledger::Ledger;
 use crate::seat::Seat;
@@ -22,7 +21,7 @@ pub struct SeatParts {
 }
 
 impl Ledger {
-    ghost use Rattle.std.specs.Prelude.{◌≡◌, List, ℕ};
+    ghost use Rattle.std.specs.Prelude.{◌≡◌};
 
     /// The ledger taken apart.
     fn into_parts(self, counters: Counters, files: Vec<Output>) -> SeatParts

@@ -22,16 +22,15 @@ fn came_up(answer: Attached) -> bool
 }
 
 impl Seat {
-    ghost use Rattle.std.specs.Prelude.{◌≡◌, ◌≤◌, IfOk, IsTrue, List, Some, false, ℕ};
+    ghost use Rattle.std.specs.Prelude.{◌≡◌, ◌≤◌, IfOk, IsTrue, Some, false};
     ghost use Rattle.sn_interlink.specs.Course.{is_down};
     ghost use Rattle.sn_app.specs.Answers.{OnTray};
     ghost use Rattle.sn_app.specs.Calls.{IsUp, LeavesOtherEnds};
-    ghost use Rattle.sn_app.specs.Reader.{read_if};
-    ghost use Rattle.sn_app.specs.Rows.{is_down_entry, not_down, row_attach};
+    ghost use Rattle.sn_app.specs.Rows.{row_attach};
     ghost use Rattle.sn_app.specs.declared.end_state.EndState.TheVariants.{Out};
     ghost use Rattle.sn_seat.specs.AttachReads.{NotesOther, row_looked, row_try};
     ghost use Rattle.sn_seat.specs.LaneSteps.{AtEnd, FoundAs, HasEnd, Stands};
-    ghost use Rattle.sn_seat.specs.Trays.{Fits, bond_of, seat_tray, seat_used, tray_in};
+    ghost use Rattle.sn_seat.specs.Trays.{Fits, bond_of, seat_used, tray_in};
 
     /// A gate, and then an end that is out comes up, unless the state word is another than the one that it saw. That one
     /// wasn't down.

@@ -9,7 +9,7 @@ use std::alloc::AllocError;
 const MOST_REFILLED: u32 = 64;
 
 impl Seat {
-    ghost use Rattle.std.specs.Prelude.{◌≡◌, ◌≢◌, ◌≤◌, IfOk, IfSome, IsSome, List, None, Ok, OnOk, Some, length, ℕ};
+    ghost use Rattle.std.specs.Prelude.{◌≡◌, ◌≢◌, ◌≤◌, IfOk, IfSome, List, Ok, OnOk, Some, ℕ};
     ghost use Rattle.sn_packet.specs.Hold.{at_of};
     ghost use Rattle.sn_app.specs.Answers.{OnTray};
     ghost use Rattle.sn_app.specs.Calls.{IsFresh, LeavesEnds, named};

@@ -10,9 +10,8 @@ use sn_interlink::{Detached, EndState};
 use std::alloc::AllocError;
 
 impl Seat {
-    ghost use Rattle.std.specs.Prelude.{◌≡◌, ◌<◌, ◌≤◌, ◌+◌, ◌++◌, ◌∷◌, [], IfErr, IfOk, IsSome, IsTrue, List, OnOk, false};
+    ghost use Rattle.std.specs.Prelude.{◌≡◌, ◌<◌, ◌≤◌, ◌+◌, IfErr, IfOk, IsSome, IsTrue, List, OnOk, false, length, ℕ};
     ghost use Rattle.sn_packet.specs.Hold.{at_of, frees_of};
-    ghost use Rattle.std.specs.Prelude.{length, ℕ};
     ghost use Rattle.sn_app.specs.Answers.{OnTray};
     ghost use Rattle.sn_app.specs.Calls.{LeavesOtherEnds};
     ghost use Rattle.sn_app.specs.Gates.{working};

@@ -20,13 +20,12 @@ pub(crate) fn link_of(shared: &Shared, lane: u32) -> &Interlink
 }
 
 impl Seat {
-    ghost use Rattle.std.specs.Prelude.{◌≡◌, ◌≢◌, ◌≤◌, ◌<◌, ◌∷◌, ◌++◌, [], IfOk, IsSome, IsTrue, List, None, Ok, OnOk, Some};
-    ghost use Rattle.std.specs.Prelude.{false, length, slice_get, vec_capacity, ℕ};
+    ghost use Rattle.std.specs.Prelude.{◌≡◌, ◌≢◌, ◌≤◌, ◌<◌, [], IfOk, IsSome, List, None, Ok, OnOk, false, vec_capacity, ℕ};
     ghost use Rattle.sn_core.specs.declared.events.Side.TheVariants.{Rx, Tx};
     ghost use Rattle.sn_packet.specs.Hold.{put_at};
     ghost use Rattle.sn_packet.specs.Packet.{is_worn};
     ghost use Rattle.sn_app.specs.Answers.{OnTray};
-    ghost use Rattle.sn_app.specs.Calls.{AfterPut, AfterTake, IsFresh, IsUp, Knows, LeavesOtherEnds, bytes_at, packet_there};
+    ghost use Rattle.sn_app.specs.Calls.{AfterPut, AfterTake, IsFresh, Knows, LeavesOtherEnds, bytes_at, packet_there};
     ghost use Rattle.sn_app.specs.Rows.{row_look, row_put, row_room, row_take};
     ghost use Rattle.sn_app.specs.World.{packet_at};
     ghost use Rattle.sn_app.specs.declared.end_state.EndState.TheVariants.{Up};

@@ -19,9 +19,8 @@ fn channel_of(shared: &Shared, worker: u32) -> &Channel
 }
 
 impl Seat {
-    ghost use Rattle.std.specs.Prelude.{◌≡◌, ◌≤◌, ◌<◌, [], IfNone, IfOk, IfSome, IsOk, IsSome, List, true, None, OnErr};
-    ghost use Rattle.std.specs.Prelude.{OnOk, Some};
-    ghost use Rattle.std.specs.Prelude.{◌≢◌, ◌^◌, All, length, slice_get, ℕ};
+    ghost use Rattle.std.specs.Prelude.{◌≡◌, ◌≢◌, ◌≤◌, ◌<◌, [], All, IfNone, IfOk, IfSome, IsOk, IsSome, List, None};
+    ghost use Rattle.std.specs.Prelude.{OnErr, OnOk, Some, length, slice_get, true, ℕ};
     ghost use Rattle.sn_packet.specs.Hold.{at_of};
     ghost use Rattle.sn_packet.specs.Packet.{is_worn};
     ghost use Rattle.sn_app.specs.Answers.{OnTray};
