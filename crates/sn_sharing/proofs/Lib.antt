@@ -1,5 +1,5 @@
-mod Lists
-mod Yielded
+pub mod Lists
+pub mod Yielded
 mod TakenEnds
 mod Emptying
 mod LaneTurns
