@@ -1,0 +1,13 @@
+pub mod OwnEnds
+pub mod Working
+pub mod SpeakersMet
+pub mod Placing
+pub mod Speaking
+pub mod Channels
+pub mod OneMore
+pub mod Ready
+pub mod Unspent
+pub mod InJournals
+pub mod LeftOver
+pub mod SeatsLeft
+pub mod HaveClosed
