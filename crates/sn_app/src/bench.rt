@@ -22,8 +22,7 @@ use sn_pcap::Capture;
 use std::alloc::{AllocError, Global};
 use std::marker::Model;
 
-/// A context over lists, for tests, and for a worker that shares nothing. What a real context would find at shared objects, it
-/// reads from a script.
+/// A context over lists, for tests. What a context over shared objects would find at them, it reads from a script.
 #[derive(Drop)]
 pub struct Bench {
     pub(crate) alloc: Global,

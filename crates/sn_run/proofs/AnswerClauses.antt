@@ -9,7 +9,7 @@ use Rattle.sn_pcap.specs.Grammar.{PcapText}
 use Rattle.sn_outside.specs.declared.fault.FileFault.TheVariants.{Failed, TooLong as Long, OutOfMemory as NoMemory}
 use Rattle.sn_run.specs.Answers.{Answered, FaultsCounted, Headline, IsCaused, IsDue, IsTextOf, Leaves, ended_by}
 use Rattle.sn_run.specs.Answers.{has_report}
-use Rattle.sn_run.specs.Calls.{CallsMade, IsOrStarved}
+use Rattle.sn_run.specs.Calls.{CallsMade, IsLikeOrStarved}
 use Rattle.sn_run.specs.Commands.{IsCommand}
 use Rattle.sn_run.specs.Courses.{Course}
 use Rattle.sn_run.specs.Expectations.{Expected, IsOutside, Leads}
@@ -18,7 +18,8 @@ use Rattle.sn_run.specs.Reported.{RunReport}
 use Rattle.sn_run.specs.Scripts.{command_script}
 use Rattle.sn_run.specs.Seen.{Seen}
 use Rattle.sn_run.specs.Texts.{Said}
-use Rattle.sn_run.specs.Ways.{Way, no_words, unread, refused, finished, done, unwritten, starved, unprinted, way_of}
+use Rattle.sn_run.specs.Ways.{AreAlike, Way, is_finished, no_words, unread, refused, finished, done, unwritten, starved}
+use Rattle.sn_run.specs.Ways.{unprinted, way_of}
 use Rattle.sn_run.specs.declared.status.Ended.{Ended}
 use Rattle.sn_run.specs.declared.status.Status.{Status}
 use Rattle.sn_run.specs.declared.status.Status.TheVariants.{Drained, RoundsUsed, JournalLimit, Done, BadWords, NoWorker}
@@ -28,8 +29,18 @@ use Rattle.sn_run.proofs.CallLists.{makes_calls}
 use Rattle.sn_run.proofs.ScriptEnds.{HasOwnText, counts, of_script, own_text, reports}
 use Rattle.sn_run.proofs.Headlines.{headline, ran_leaves, untouched_leaves}
 use Rattle.sn_run.proofs.RunEnds.{RanTo, Untouched, run_ends}
-use Rattle.sn_run.proofs.OneAnswer.{led, one_lead}
+use Rattle.sn_run.proofs.OneAnswer.{SaidAlike, led, one_lead}
 use Rattle.sn_run.proofs.OneCommand.{one_asked}
+
+ways_alike : (a b : Said) → SaidAlike a b → AreAlike a.way b.way
+ways_alike a b alike = elim alike [ inl e ↦ inl (ap (λ s. s.way) e) | inr both ↦ inr both ]
+
+-- where no run came to its end, the texts are one
+same_text : (a b : Said) → a.way ≡ done → SaidAlike a b → a.text ≡ b.text
+same_text a b is alike = elim alike [
+  | inl e ↦ ap (λ s. s.text) e
+  | inr both ↦ absurd (let h : false ≡ true = sym (ap is_finished is) ∙ both.0 in cc)
+]
 
 module _ (w : Seen) (words : List (List ℕ)) where
   pub reports_of : (report : Option RunReport) (said : Said) → Course w words report said → is_some report ≡ has_report said.way
@@ -86,9 +97,9 @@ module _ (w : Seen) (words : List (List ℕ)) where
 
   module _ (one_fault : (bytes : List ℕ) (a b : PcapFault) → HasFault bytes a → HasFault bytes b → a ≡ b) (no_fault :
       (bytes : List ℕ) (records : List (List ℕ)) (fault : PcapFault) → PcapText bytes records → HasFault bytes fault → ⊥) where
-    -- words and contents lead to one answer
-    one_expected : (a b : Said) → Expected w.old.contents words a → Expected w.old.contents words b → a ≡ b
-    one_expected a b (inl x) (inl y) = x.1 ∙ sym y.1
+    -- words and contents lead to one answer, up to what a run leaves
+    one_expected : (a b : Said) → Expected w.old.contents words a → Expected w.old.contents words b → SaidAlike a b
+    one_expected a b (inl x) (inl y) = inl (x.1 ∙ sym y.1)
     one_expected a b (inl x) (inr y) = absurd (x.0 (y.file, y.command, y.asked))
     one_expected a b (inr x) (inl y) = absurd (y.0 (x.file, x.command, x.asked))
     one_expected a b (inr x) (inr y) =
@@ -122,17 +133,17 @@ module _ (w : Seen) (words : List (List ℕ)) where
     lacking unprinted o f calm = absurd o
 
     pub expected_of : (report : Option RunReport) (said wanted : Said) → Course w words report said → IsDue w words wanted
-        → IsOrStarved said.way wanted.way
+        → IsLikeOrStarved said.way wanted.way
     expected_of report said wanted course due = elim (expected_by report said course due.told) [
       | inl o ↦ inr (lacking said.way o (counts_of report said course) due.calm)
-      | inr e ↦ inl (ap (λ s. s.way) (one_expected said wanted e due.expected))
+      | inr e ↦ inl (ways_alike said wanted (one_expected said wanted e due.expected))
     ]
 
     pub shown_of : (report : Option RunReport) (said wanted : Said) → Course w words report said → w.tells ≡ true
         → Expected w.old.contents words wanted → said.way ≡ done → said.text ≡ wanted.text
     shown_of report said wanted course t expected is = elim (expected_by report said course t) [
       | inl o ↦ absurd (subst IsOutside is o)
-      | inr e ↦ ap (λ s. s.text) (one_expected said wanted e expected)
+      | inr e ↦ same_text said wanted is (one_expected said wanted e expected)
     ]
 
   -- the words are no command just where the answer says so

@@ -1,20 +1,13 @@
 pub mod AnswerClauses
 pub mod CallLists
 pub mod Headlines
-mod NoLanes
 pub mod Numbers
 pub mod OneAnswer
 pub mod OneCommand
-pub mod OneRun
-pub mod Opened
-pub mod Replaying
+pub mod Rows
 pub mod RunEnds
+pub mod RunIs
 pub mod ScriptEnds
 pub mod ScriptSteps
-pub mod Settled
-pub mod SettledApps
-pub mod SettledRows
-pub mod SettledTurns
-pub mod SpentTurns
 pub mod TextPieces
 pub mod WrittenFiles

@@ -1,4 +1,4 @@
--- Where words and contents lead, and that they lead to one answer.
+-- Where words and contents lead, and that they lead to one answer, up to what a run leaves.
 use Rattle.std.proofs.Common.{◌≡◌, ℕ, ◌<◌, ◌≤◌, Bool, true, inl, inr, List, [], ◌∷◌, Option, Some, None, Ok, Err, refl, sym, ap}
 use Rattle.std.proofs.Common.{◌∙◌, subst, arith}
 use Rattle.std.specs.Prelude.{◌⊎◌, IsSomeAnd}
@@ -15,8 +15,8 @@ use Rattle.sn_run.specs.Reported.{RunReport}
 use Rattle.sn_run.specs.Scripts.{Script, prints, refuses, reads, opens, runs}
 use Rattle.sn_run.specs.Seen.{Holds, IsOver, ReadRefused}
 use Rattle.sn_run.specs.Texts.{Said, SaysOrStarves, said_of, starving, unread_said}
-use Rattle.sn_run.specs.Ways.{finished, refused, no_capture}
-use Rattle.sn_run.proofs.OneRun.{one_run}
+use Rattle.sn_run.specs.Ways.{finished, is_finished, refused, no_capture}
+use Rattle.sn_run.specs.declared.outcome.Outcome.{Outcome}
 
 -- the answer tells of a fault of files or of want of memory, or the contents lead to it
 abbrev pub Led : Script → Contents → Said → Type 0
@@ -78,22 +78,28 @@ never_over m name limit bytes x y =
     subst (λ o. IsSomeAnd o (λ b. limit < Rattle.std.proofs.Common.length b)) x.held y.over in
     omega (arith, over, x.short)
 
+-- what is said is one, or a run came to its end in both
+abbrev pub SaidAlike : Said → Said → Type 0
+SaidAlike a b = (a ≡ b) ⊎ ((is_finished a.way ≡ true) × (is_finished b.way ≡ true))
+
+ended_alike : (a b : Said) (x y : Outcome) → a ≡ said_of (finished x) → b ≡ said_of (finished y) → SaidAlike a b
+ended_alike a b x y p q = inr (ap (λ s. is_finished s.way) p, ap (λ s. is_finished s.way) q)
+
 module _ (one_fault : (bytes : List ℕ) (a b : PcapFault) → HasFault bytes a → HasFault bytes b → a ≡ b)
     (no_fault : (bytes : List ℕ) (records : List (List ℕ)) (fault : PcapFault) → PcapText bytes records → HasFault bytes fault
     → ⊥) where
-  pub one_lead : (s : Script) (m : Contents) (a b : Said) → Leads s m a → Leads s m b → a ≡ b
+  pub one_lead : (s : Script) (m : Contents) (a b : Said) → Leads s m a → Leads s m b → SaidAlike a b
   unfolding Leads
-  one_lead (prints text) m a b x y = x ∙ sym y
-  one_lead (refuses why) m a b x y = x ∙ sym y
+  one_lead (prints text) m a b x y = inl (x ∙ sym y)
+  one_lead (refuses why) m a b x y = inl (x ∙ sym y)
   one_lead (reads name limit next) m a b (inl x) (inl y) =
       one_lead (next y.0) m a b (subst (λ t. Leads (next t) m a) (one_text m name limit x.0 y.0 x.1 y.1) x.2) y.2
   one_lead (reads name limit next) m a b (inl x) (inr y) = absurd (never_over m name limit x.0 x.1 y.0)
   one_lead (reads name limit next) m a b (inr x) (inl y) = absurd (never_over m name limit y.0 y.1 x.0)
-  one_lead (reads name limit next) m a b (inr x) (inr y) = x.1 ∙ sym y.1
+  one_lead (reads name limit next) m a b (inr x) (inr y) = inl (x.1 ∙ sym y.1)
   one_lead (opens name bytes next) m a b (inl x) (inl y) = one_lead next m a b x.1 y.1
   one_lead (opens name bytes next) m a b (inl x) (inr y) = absurd (no_fault bytes x.0.records y.0 x.0.text y.1)
   one_lead (opens name bytes next) m a b (inr x) (inl y) = absurd (no_fault bytes y.0.records x.0 y.0.text x.1)
   one_lead (opens name bytes next) m a b (inr x) (inr y) =
-      x.2 ∙ ap (λ f. said_of (refused (no_capture name f))) (one_fault bytes x.0 y.0 x.1 y.1) ∙ sym y.2
-  one_lead (runs form captures) m a b x y =
-      x.3 ∙ ap (λ o. said_of (finished o)) (one_run form captures x.0 y.0 x.1 y.1 x.2 y.2).0 ∙ sym y.3
+      inl (x.2 ∙ ap (λ f. said_of (refused (no_capture name f))) (one_fault bytes x.0 y.0 x.1 y.1) ∙ sym y.2)
+  one_lead (runs form captures) m a b x y = ended_alike a b x.0 y.0 x.3 y.3

@@ -13,7 +13,7 @@ use Rattle.sn_run.specs.Replay.{IsRun}
 use Rattle.sn_run.specs.Reported.{RunReport, WrittenFile}
 use Rattle.sn_run.specs.Scripts.{Script, prints, refuses, reads, opens, runs, command_script}
 use Rattle.sn_run.specs.Seen.{Seen, a_read, write_call}
-use Rattle.sn_run.specs.Ways.{Way, no_words, unread, refused, finished, done, unwritten, starved, no_capture}
+use Rattle.sn_run.specs.Ways.{AreAlike, Way, no_words, unread, refused, finished, done, unwritten, starved, no_capture}
 use Rattle.sn_run.specs.Written.{written_files}
 use Rattle.sn_run.specs.declared.command.Command.{Command}
 use Rattle.sn_run.specs.declared.outcome.Outcome.{Outcome}
@@ -21,6 +21,10 @@ use Rattle.sn_run.specs.declared.outcome.Outcome.{Outcome}
 -- the way is this one, or memory lacked
 abbrev pub IsOrStarved : Way → Way → Type 0
 IsOrStarved way wanted = (way ≡ wanted) ⊎ (way ≡ starved)
+
+-- the way is like this one, or memory lacked
+abbrev pub IsLikeOrStarved : Way → Way → Type 0
+IsLikeOrStarved way wanted = AreAlike way wanted ⊎ (way ≡ starved)
 
 -- the way in which a refused call ends a command
 abbrev pub unread_way : List ℕ → FileFault → Way

@@ -7,10 +7,10 @@ pub mod Courses
 pub mod Exit
 pub mod Expectations
 pub mod Now
-pub mod OnBench
 pub mod Printed
 pub mod Replay
 pub mod Reported
+pub mod Runs
 pub mod Scripts
 pub mod Seen
 pub mod Steps

@@ -1,55 +1,19 @@
--- A run, as its worker's journal is read again.
-use Rattle.std.specs.Prelude.{ℕ, ◌≡◌, true, List, [], ◌∷◌, Option, Some, None, length, map, replicate}
-use Rattle.sn_actions.specs.declared.action.Action.{Action}
-use Rattle.sn_app.specs.Answers.{all_may}
-use Rattle.sn_app.specs.Bench.{constants_of, may_come}
-use Rattle.sn_app.specs.Counts.{CounterRows, no_app_counts}
-use Rattle.sn_app.specs.Desk.{Desk, Tray, name_of, nothing, out_end}
-use Rattle.sn_app.specs.Opening.{packets_below}
-use Rattle.sn_app.specs.Reader.{Meaning, done}
-use Rattle.sn_journal.specs.declared.entry.Entry.{Entry}
-use Rattle.sn_link.specs.Counts.{no_counts}
-use Rattle.sn_names.specs.Rosters.{RosterRows}
-use Rattle.sn_scenario.specs.Plans.{due_of, plan_of, roster_of}
+-- A run, as its workers' journals are read again.
+use Rattle.std.specs.Prelude.{ℕ, ◌≡◌, ◌+◌, ◌⊎◌, ◌≤◌, IsTrue, fold, List, [], ◌∷◌, ◌++◌, Option, Some, None, length, map}
+use Rattle.std.specs.Prelude.{replicate}
+use Rattle.std.specs.List.{list_any}
+use Rattle.sn_app.specs.Desk.{Desk}
+use Rattle.sn_crew.specs.Crews.{is_spent}
+use Rattle.sn_crew.specs.Endings.{AreListed, AreReplays, counters_at, entries_at, files_at, left_by}
+use Rattle.sn_crew.specs.Stands.{Stand}
+use Rattle.sn_journal.specs.HandOvers.{PacketName}
+use Rattle.sn_journal.specs.declared.slot_state.SlotState.TheVariants.{Running}
 use Rattle.sn_scenario.specs.Scenarios.{ScenarioForm}
-use Rattle.sn_wiring.specs.Lost.{lost}
-use Rattle.sn_worker.specs.Ends.{left_of}
-use Rattle.sn_worker.specs.Lives.{Life, new_life}
-use Rattle.sn_worker.specs.Turns.{rounds}
+use Rattle.sn_sharing.specs.Closings.{AreFifo, AreHeld, AreLogs, IsBalanced}
+use Rattle.sn_sharing.specs.Pools.{pool_packets}
 use Rattle.sn_run.specs.Reported.{RunReport, WrittenFile, outcome_of}
 use Rattle.sn_run.specs.declared.outcome.Outcome.{Outcome}
-
--- all counts are 0
-abbrev pub no_counters : RosterRows → CounterRows
-no_counters roster = record {
-  apps = replicate (length roster.apps) no_app_counts;
-  links = replicate (length roster.links) no_counts;
-}
-
--- The tray that a run begins with: all packets of the pool are free, the last one last, no file is started and nothing counted.
--- Its entries are the worker's own, and that no packet came.
-abbrev pub opening_tray : ScenarioForm → List (List ℕ) → Tray
-opening_tray form captures = record {
-  log = record { past = []; constants = constants_of true (roster_of 0 form) captures };
-  gates = 0;
-  free = map name_of (packets_below form.settings.pool);
-  pending = nothing;
-  ends = λ lane side. out_end;
-  counters = no_counters (roster_of 0 form);
-  files = replicate (length (roster_of 0 form).files) None;
-}
-
--- no link stands on the desk that a run begins with
-abbrev pub opening_desk : ScenarioForm → List (List ℕ) → Desk
-opening_desk form captures = record { tray = opening_tray form captures; queues = λ row. None }
-
--- the plan of the run's worker
-abbrev pub worker_plan : ScenarioForm → List Action
-worker_plan form = plan_of 0 form
-
--- the rounds of its worker mean this, from a life that begins
-abbrev pub worker_rounds : ScenarioForm → Meaning Life
-worker_rounds form = rounds (worker_plan form) form.settings.breaths (λ r. due_of 0 r form) form.settings.rounds new_life
+use Rattle.sn_run.specs.declared.report.Kept.{Kept}
 
 -- the files that were started, of these by their names
 abbrev pub started : List (List ℕ) → List (Option (List ℕ)) → List WrittenFile
@@ -58,22 +22,60 @@ started (name ∷ names) [] = []
 started (name ∷ names) (None ∷ files) = started names files
 started (name ∷ names) (Some bytes ∷ files) = record { name = name; bytes = bytes } ∷ started names files
 
--- A worker's journal of these entries is read from the opening to its end: there the worker has this life, and its desk is this.
-pub record IsReplay (form : ScenarioForm) (captures : List (List ℕ)) (entries : List Entry) (life : Life)
-    (end : Desk) : Type 0 where
-  pub reads : worker_rounds form (opening_desk form captures) entries ≡ done life end []
-  pub allowed : all_may (may_come true) entries ≡ true
-  pub past : end.tray.log.past ≡ entries
+-- row by row: the file that was started, the first one where both were
+abbrev pub first_started : Option (List ℕ) → Option (List ℕ) → Option (List ℕ)
+first_started None other = other
+first_started (Some bytes) other = Some bytes
 
--- Outcome and report are those of a run of this scenario over captures of these bytes: the report's journal is read again, and
--- its files, its counters and what was left stand where that ends, the counters with those of the links that are lost then.
+-- the same, where there is another
+abbrev pub first_of : Option (List ℕ) → Option (Option (List ℕ)) → Option (List ℕ)
+first_of file None = file
+first_of file (Some other) = first_started file other
+
+abbrev pub over : List (Option (List ℕ)) → List (Option (List ℕ)) → List (Option (List ℕ))
+over [] others = []
+over (file ∷ files) [] = file ∷ files
+over (file ∷ files) (other ∷ others) = first_started file other ∷ over files others
+
+-- the files of all workers together: an output is started by one worker at most
+abbrev pub together : ℕ → List (List (Option (List ℕ))) → List (Option (List ℕ))
+together rows files = fold over (replicate rows None) files
+
+-- packets that are kept, of the workers from this one on
+abbrev pub kept_at : ℕ → PacketName → Kept
+kept_at worker name = record { worker = worker; number = name.0; turn = name.1 }
+
+abbrev pub kept_from : ℕ → List (List PacketName) → List Kept
+kept_from worker [] = []
+kept_from worker (names ∷ more) = map (kept_at worker) names ++ kept_from (worker + 1) more
+
+-- So many rounds were made of a scenario: all, or those up to one in which a worker was spent.
+pub record AreRounds (form : ScenarioForm) (rounds : ℕ) (stands : List Stand) : Type 0 where
+  pub within : rounds ≤ form.settings.rounds
+  pub last : (rounds ≡ form.settings.rounds) ⊎ IsTrue (list_any is_spent stands)
+
+-- Outcome and report are those of a run of this scenario over captures of these bytes. Each worker's journal is read again, from
+-- the opening over the run's rounds to its end; counters and files are those that stand there, and each packet that it holds
+-- there is listed. The journals are the logs of the receipts, in each interlink what was put came out first in, first out, and
+-- the group's receipt has what was given and not got. What was left is that before the closing.
 pub record IsRun (form : ScenarioForm) (captures : List (List ℕ)) (ran : Outcome) (report : RunReport) : Type 0 where
-  pub entries : List Entry
-  pub life : Life
-  pub end : Desk
-  pub replay : IsReplay form captures entries life end
-  pub journal : report.journals ≡ entries ∷ []
-  pub counters : report.counters ≡ (lost end).tray.counters ∷ []
-  pub files : report.files ≡ started form.outputs end.tray.files
-  pub left : report.left ≡ left_of (worker_plan form) life end
+  pub rounds : ℕ
+  pub stands : List Stand
+  pub ends : List Desk
+  pub kept_by : List (List PacketName)
+  pub workers : length stands ≡ form.settings.workers
+  pub last : AreRounds form rounds stands
+  pub replays : AreReplays form captures rounds stands ends
+  pub journals : report.journals ≡ map entries_at ends
+  pub counters : report.counters ≡ map counters_at ends
+  pub files : report.files ≡ started form.outputs (together (length form.outputs) (map files_at ends))
+  pub states : report.states ≡ replicate form.settings.workers Running
+  pub left : report.left ≡ left_by form stands
+  pub logs : AreLogs report.journals form.lanes report.lanes report.group
+  pub fifo : AreFifo report.lanes
+  pub balance : IsBalanced (pool_packets form.settings.pool) report.group
+  pub kept : report.kept ≡ kept_from 0 kept_by
+  pub all_kept : length kept_by ≡ length ends
+  pub listed : AreListed ends kept_by
+  pub held : AreHeld report.journals kept_by
   pub ended : ran ≡ outcome_of report

@@ -1,11 +1,16 @@
 -- What a run reports, and how it ends.
-use Rattle.std.specs.Prelude.{ℕ, ◌+◌, ◌==◌, ◌||◌, if◌then◌else◌, Bool, true, false, List, [], ◌∷◌, Option, Some, None}
+use Rattle.std.specs.Prelude.{ℕ, ◌+◌, ◌==◌, if◌then◌else◌, Bool, true, false, List, [], ◌∷◌, Option, Some, None}
 use Rattle.std.specs.FinMap.{insert}
+use Rattle.std.specs.List.{list_any}
 use Rattle.sn_app.specs.Counts.{CounterRows}
+use Rattle.sn_group.specs.declared.receipt.GroupReceipt.{GroupReceipt}
+use Rattle.sn_interlink.specs.declared.receipt.LaneReceipt.{LaneReceipt}
+use Rattle.sn_journal.specs.declared.slot_state.SlotState.{SlotState}
 use Rattle.sn_journal.specs.declared.entry.Entry.{Entry}
 use Rattle.sn_journal.specs.declared.entry.Entry.TheVariants.{Spent}
 use Rattle.sn_outside.specs.Contents.{Contents}
 use Rattle.sn_run.specs.declared.outcome.Outcome.{Outcome}
+use Rattle.sn_run.specs.declared.report.Kept.{Kept}
 use Rattle.sn_run.specs.declared.outcome.Outcome.TheVariants.{Drained, RoundsUsed, JournalLimit}
 
 -- a file that a run writes
@@ -13,12 +18,17 @@ pub record WrittenFile : Type 0 where
   pub name : List ℕ
   pub bytes : List ℕ
 
--- What a report tells: the entries of each worker's journal, what the apps and links of each have counted, the files of the run,
--- and how much was left.
+-- What a report tells: the entries of each worker's journal, the receipts of the interlinks and of the group, the packets that
+-- workers still hold, what the apps and links of each worker have counted, the files of the run, how each slot stands, and how
+-- much was left.
 pub record RunReport : Type 0 where
   pub journals : List (List Entry)
+  pub lanes : List LaneReceipt
+  pub group : GroupReceipt
+  pub kept : List Kept
   pub counters : List CounterRows
   pub files : List WrittenFile
+  pub states : List SlotState
   pub left : ℕ
 
 -- whether an entry says that the journal is full, and whether one of a journal's does
@@ -27,8 +37,7 @@ is_spent Spent = true
 is_spent entry = false
 
 abbrev pub has_spent : List Entry → Bool
-has_spent [] = false
-has_spent (entry ∷ more) = is_spent entry || has_spent more
+has_spent entries = list_any is_spent entries
 
 -- the first worker of these with such a journal, where they are numbered on from this one
 abbrev pub first_full : ℕ → List (List Entry) → Option ℕ

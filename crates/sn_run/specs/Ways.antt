@@ -1,5 +1,5 @@
 -- The ways in which a command ends.
-use Rattle.std.specs.Prelude.{ℕ, List}
+use Rattle.std.specs.Prelude.{ℕ, ◌≡◌, ◌⊎◌, Bool, true, false, List}
 use Rattle.sn_outside.specs.declared.fault.FileFault.{FileFault}
 use Rattle.sn_outside.specs.declared.fault.FileFault.TheVariants.{Failed, TooLong as Long}
 use Rattle.sn_pcap.specs.declared.fault.PcapFault.{PcapFault}
@@ -30,6 +30,16 @@ pub data Way : Type 0 where
   unwritten : List ℕ → Way
   starved : Way
   unprinted : Way
+
+-- a run came to its end
+abbrev pub is_finished : Way → Bool
+is_finished (finished outcome) = true
+is_finished way = false
+
+-- The ways are one, or a run came to its end in both. Words and contents don't tell how workers meet, and so not what a run
+-- leaves.
+abbrev pub AreAlike : Way → Way → Type 0
+AreAlike way wanted = (way ≡ wanted) ⊎ ((is_finished way ≡ true) × (is_finished wanted ≡ true))
 
 -- the way that a status tells
 abbrev pub way_of : Status → Way

@@ -18,9 +18,10 @@ use crate::texts::status_text;
 use crate::values::run_scenario;
 use crate::writing::write_report;
 use sn_names::FileName;
-use sn_outside::Files;
+use sn_outside::{Files, Gate};
 use sn_scenario::Scenario;
 use std::alloc::{AllocError, Global};
+use std::thread::Threads;
 
 /// The answer that what was asked for is done, with its text.
 fn done(text: Vec<u8>) -> Answer
@@ -35,11 +36,17 @@ fn done(text: Vec<u8>) -> Answer
 }
 
 /// Reads the captures of a scenario, runs it, and writes the files that the run leaves and the journal's.
-fn run_read<F: Files>(alloc: Global, scenario: &Scenario, files: &mut F) -> Answer
-    requires { runs_now scenario.now ≡ true }
+fn run_read<R: Threads + Sync, F: Files, G: Gate>(
+    rt: &R,
+    alloc: Global,
+    scenario: Scenario,
+    files: &mut F,
+    gate: &G,
+) -> Answer
+    requires { runs_now scenario ≡ true }
     ensures { Follows
         F.tells
-        (captures_script scenario.now scenario.now.captures most_captures [])
+        (captures_script scenario scenario.captures most_captures [])
         (F.state files.old)
         (F.state files.new)
         result.report
@@ -49,7 +56,7 @@ fn run_read<F: Files>(alloc: Global, scenario: &Scenario, files: &mut F) -> Answ
         Ok(captures) => captures,
         Err(refusal) => return refused(refusal),
     };
-    let Ok((outcome, report)) = run_scenario(alloc, scenario, captures) else {
+    let Ok((outcome, report, scenario)) = run_scenario(rt, alloc, scenario, captures, gate) else {
         return starved(alloc);
     };
     let Ok(journal) = journal_files(alloc, scenario.journal(), &report) else {
@@ -59,7 +66,13 @@ fn run_read<F: Files>(alloc: Global, scenario: &Scenario, files: &mut F) -> Answ
 }
 
 /// Runs the scenario that a file holds.
-pub(crate) fn run_file<F: Files>(alloc: Global, file: FileName, files: &mut F) -> Answer
+pub(crate) fn run_file<R: Threads + Sync, F: Files, G: Gate>(
+    rt: &R,
+    alloc: Global,
+    file: FileName,
+    files: &mut F,
+    gate: &G,
+) -> Answer
     ensures { Follows
         F.tells
         (command_script file Run)
@@ -75,7 +88,7 @@ pub(crate) fn run_file<F: Files>(alloc: Global, file: FileName, files: &mut F) -
     if !runs_now(&scenario) {
         return refused(refusal_of(alloc, Status::NotYet(file)));
     }
-    run_read(alloc, &scenario, files)
+    run_read(rt, alloc, scenario, files, gate)
 }
 
 /// Reads the scenario that a file holds, and says that it is one.

@@ -4,7 +4,7 @@
 //! * `reading`: the files that a command reads
 //! * `commands`: what each command does with its file
 //! * `now`: which scenarios run so far
-//! * `values`, `opening`, `reporting`, `laws`: the run of one over captures, its bench, what it reports, and that there is one
+//! * `values`, `run`, `reporting`: the run of one over captures, round by round, and what is reported of it
 //! * `writing`, `journal_text`: the files that a run writes, and the journal's text
 //! * `status`, `outcome`, `report`: how a command and a run end, and what a run leaves
 //! * `answer`, `texts`, `action_text`, `printing`: answers, their texts, and the sink that takes them
@@ -16,24 +16,23 @@ mod answer;
 mod command;
 mod commands;
 mod journal_text;
-mod laws;
 mod now;
-mod opening;
 mod outcome;
 mod printing;
 mod reading;
 mod report;
 mod reporting;
+mod run;
 mod status;
 mod texts;
 mod top;
 mod values;
 mod writing;
 
-pub use laws::one_run;
 pub use now::runs_now;
 pub use outcome::Outcome;
-pub use report::{OutFile, Report};
+pub use report::{Kept, OutFile, Report};
+pub use run::Run;
 pub use status::{Ended, Status};
 pub use top::snabb_main;
 pub use values::run_scenario;

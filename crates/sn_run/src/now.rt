@@ -4,9 +4,9 @@ ghost use Rattle.std.specs.Prelude.{length, ◌≡◌};
 
 use sn_scenario::Scenario;
 
-/// Whether the scenario runs so far: it has one worker, and no interlinks and stops.
+/// Whether the scenario runs so far: it stops no worker.
 pub fn runs_now(scenario: &Scenario) -> bool
     ensures { result ≡ runs_now scenario.now }
 {
-    scenario.settings().workers == 1 && scenario.lanes().is_empty() && scenario.stops().is_empty()
+    scenario.stops().is_empty()
 }

@@ -2,7 +2,9 @@
 ghost use Rattle.std.specs.Prelude.{◌≡◌};
 
 use sn_app::Counters;
-use sn_journal::Journal;
+use sn_group::GroupReceipt;
+use sn_interlink::LaneReceipt;
+use sn_journal::{Journal, SlotState};
 use sn_names::FileName;
 use std::marker::Model;
 
@@ -21,13 +23,26 @@ impl Model for OutFile {
     ghost view = { λ f. record { name = f.name; bytes = f.bytes.items } };
 }
 
-/// What a run leaves: the journal of each worker, what the apps and links of each have counted, the files that its apps wrote,
-/// and how much was left undone.
-#[derive(Debug, Drop)]
+/// A packet that a worker still holds at its end, by number and turn.
+#[derive(Clone, Copy, Debug, PartialEq, Eq)]
+pub struct Kept {
+    pub worker: u32,
+    pub number: u32,
+    pub turn: u64,
+}
+
+/// What a run leaves: the journal of each worker, the receipts of the interlinks and of the group, the packets that workers
+/// still hold, by worker and number, what the apps and links of each worker have counted, the files that apps wrote, how each
+/// worker's slot stands, and how much was left undone.
+#[derive(Drop)]
 pub struct Report {
     pub journals: Vec<Journal>,
+    pub lanes: Vec<LaneReceipt>,
+    pub group: GroupReceipt,
+    pub kept: Vec<Kept>,
     pub counters: Vec<Counters>,
     pub files: Vec<OutFile>,
+    pub states: Vec<SlotState>,
     pub left: u64,
 }
 
@@ -39,8 +54,12 @@ impl Model for Report {
 
     ghost view = { λ r. record {
       journals = map (λ j. j.entries) r.journals.items;
+      lanes = r.lanes.items;
+      group = r.group;
+      kept = r.kept.items;
       counters = r.counters.items;
       files = r.files.items;
+      states = r.states.items;
       left = r.left;
     } };
 }

@@ -24,7 +24,7 @@ pub enum Status {
     NoWorker(u32),
     /// The file holds no scenario, and this is its first fault.
     BadScenario(ScenarioFault),
-    /// The scenario doesn't run so far: it has more than one worker, an interlink or a stop.
+    /// The scenario doesn't run so far: it stops a worker.
     NotYet(FileName),
     /// The file is no capture, and this is its first fault.
     BadPcap(FileName, PcapFault),
@@ -63,7 +63,7 @@ impl Status {
 
 /// How the top call ended: its status, the answer that a print fault replaced, and what a run
 /// reports.
-#[derive(Debug, Drop)]
+#[derive(Drop)]
 pub struct Ended {
     pub status: Status,
     pub replaced: Option<Status>,

@@ -2,7 +2,7 @@
 ghost use Rattle.sn_outside.specs.Counts.{FaultCounted};
 ghost use Rattle.sn_run.specs.Answers.{answer_of, ended_by, has_report, Answered, FaultsCounted, Headline, IsCaused, IsDue};
 ghost use Rattle.sn_run.specs.Answers.{IsTextOf, Leaves};
-ghost use Rattle.sn_run.specs.Calls.{CallsMade, IsOrStarved};
+ghost use Rattle.sn_run.specs.Calls.{CallsMade, IsLikeOrStarved};
 ghost use Rattle.sn_run.specs.Commands.{IsCommand, texts};
 ghost use Rattle.sn_run.specs.Courses.{Course, Follows};
 ghost use Rattle.sn_run.specs.Expectations.{Expected};
@@ -70,7 +70,14 @@ fn file_name(alloc: Global, file: &str) -> Result<FileName, AllocError>
 }
 
 /// Does with its file what a command asks for.
-fn run_command<F: Files>(alloc: Global, file: &str, command: Command, files: &mut F) -> Answer
+fn run_command<R: Threads + Sync, F: Files, G: Gate>(
+    rt: &R,
+    alloc: Global,
+    file: &str,
+    command: Command,
+    files: &mut F,
+    gate: &G,
+) -> Answer
     requires filled { 1 ≤ length file.now }
     requires short { length file.now ≤ 4096 }
     ensures { Follows
@@ -85,18 +92,20 @@ fn run_command<F: Files>(alloc: Global, file: &str, command: Command, files: &mu
         return starved(alloc);
     };
     match command {
-        Command::Run => run_file(alloc, name, files),
+        Command::Run => run_file(rt, alloc, name, files, gate),
         Command::Check => check_file(alloc, name, files),
         Command::Actions(worker) => actions_file(alloc, name, worker, files),
     }
 }
 
 /// Answers the words of a command, and prints the answer.
-fn answer_words<F: Files, O: Sink>(
+fn answer_words<R: Threads + Sync, F: Files, O: Sink, G: Gate>(
+    rt: &R,
     alloc: Global,
     words: &[String],
     files: &mut F,
     out: &mut O,
+    gate: &G,
 ) -> Ended
     ensures answered { Answered
         (seen F.tells (F.state files.old) (F.state files.new))
@@ -110,7 +119,7 @@ fn answer_words<F: Files, O: Sink>(
     let Some((file, command)) = command_of(words) else {
         return finish(Status::BadWords, None, USAGE, out);
     };
-    let answer = run_command(alloc, file, command, files);
+    let answer = run_command(rt, alloc, file, command, files, gate);
     let Answer {
         status,
         report,
@@ -126,8 +135,8 @@ fn answer_words<F: Files, O: Sink>(
 /// read first, and of a run its captures then; then its files are written, and last the text is
 /// printed.
 ///
-/// No clause says, but holds today: no memory is taken from the first write on, no thread is
-/// started, and the gate isn't called.
+/// The work of each round is done in threads; where one can't be started, the caller does its work. The gate is called before
+/// each step of a worker that others can see. No clause says, but holds: no memory is taken from the first write on.
 pub fn snabb_main<R: Threads + Sync, F: Files, O: Sink, G: Gate>(
     rt: &R,
     alloc: Global,
@@ -160,7 +169,7 @@ pub fn snabb_main<R: Threads + Sync, F: Files, O: Sink, G: Gate>(
     ensures caused { IsCaused (seen F.tells (F.state files.old) (F.state files.new)) (texts words.now) (ended_by result) }
     ensures expected { (said : Said)
         → IsDue (seen F.tells (F.state files.old) (F.state files.new)) (texts words.now) said
-        → IsOrStarved (ended_by result) said.way }
+        → IsLikeOrStarved (ended_by result) said.way }
     ensures faults { FaultsCounted (F.state files.old).faults (F.state files.new).faults (ended_by result) }
 
     // What is printed of a scenario that was read alone.
@@ -184,10 +193,8 @@ pub fn snabb_main<R: Threads + Sync, F: Files, O: Sink, G: Gate>(
     ensures print_fault { result.status ≡ Status.PrintFault → FaultCounted (O.state out.old).faults (O.state out.new).faults }
     ensures still { result.status ≢ Status.PrintFault → (O.state out.new).faults ≡ (O.state out.old).faults }
 {
-    let _ = rt;
-    let _ = gate;
     // The laws of captures, on which the causes rest.
     one_fault();
     no_fault();
-    answer_words(alloc, words, files, out)
+    answer_words(rt, alloc, words, files, out, gate)
 }

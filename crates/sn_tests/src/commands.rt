@@ -1,7 +1,7 @@
 //! A command over files in memory, and what is expected of it.
 use crate::names::file_name;
 use sn_names::FileName;
-use sn_outside::{MemFiles, MemSink, NoGate};
+use sn_outside::{Gate, MemFiles, MemSink, NoGate};
 use sn_run::{Ended, snabb_main};
 use std::alloc::{AllocError, Global};
 use std::process::Abort;
@@ -140,6 +140,18 @@ pub fn run<R: Threads + Sync + AllocGlobal>(
     let mut out = sink_of(alloc, &[])?;
     let ended = call(rt, alloc, &words, files, &mut out);
     Ok((ended, out))
+}
+
+/// The same with a gate before the workers' steps; what was printed is let go.
+pub fn run_with<R: Threads + Sync + AllocGlobal, G: Gate>(
+    rt: &R,
+    files: &mut MemFiles,
+    gate: &G,
+) -> Result<Ended, Fail> {
+    let alloc = rt.alloc();
+    let words = words_of(alloc, &["run", "s"])?;
+    let mut out = sink_of(alloc, &[])?;
+    Ok(snabb_main(rt, alloc, &words, files, &mut out, gate))
 }
 
 /// Compares how a command ended with what is expected.

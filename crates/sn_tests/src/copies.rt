@@ -1,5 +1,6 @@
 //! Scenarios that run: the records that are copied, and those that are left.
 use crate::commands::{Want, capture, expect, files_of, scenario};
+use sn_outside::NoGate;
 use sn_pcap::Capture;
 use sn_run::{Outcome, run_scenario, runs_now};
 use sn_scenario::Scenario;
@@ -179,7 +180,12 @@ fn the_longest_name_scenario_and_capture_run(rt: HostRuntime) -> Result<(), Fail
 
 /// How a scenario of two breaths runs over these bytes: its outcome, how much is left, and the file
 /// that it writes. None where it doesn't run, or memory lacked.
-fn run_of(alloc: Global, text: &[u8], bytes: Vec<u8>) -> Option<(Outcome, u64, Vec<u8>)> {
+fn run_of<R: Threads + Sync>(
+    rt: &R,
+    alloc: Global,
+    text: &[u8],
+    bytes: Vec<u8>,
+) -> Option<(Outcome, u64, Vec<u8>)> {
     if text.len() > 1_048_576 {
         return None;
     }
@@ -195,7 +201,7 @@ fn run_of(alloc: Global, text: &[u8], bytes: Vec<u8>) -> Option<(Outcome, u64, V
     if !runs_now(&read) || captures.len() != read.captures().len() {
         return None;
     }
-    let Ok((outcome, report)) = run_scenario(alloc, &read, captures) else {
+    let Ok((outcome, report, _)) = run_scenario(rt, alloc, read, captures, &NoGate) else {
         return None;
     };
     let mut files = report.files;
@@ -208,7 +214,12 @@ fn a_scenario_runs_over_values(rt: HostRuntime) -> Result<(), Fail> {
     let alloc = rt.alloc();
     let text = scenario(alloc, 2)?;
     let lengths = [60; 103];
-    let ran = run_of(alloc, text.as_str().as_bytes(), capture(alloc, &lengths)?);
+    let ran = run_of(
+        &rt,
+        alloc,
+        text.as_str().as_bytes(),
+        capture(alloc, &lengths)?,
+    );
     let want = (Outcome::RoundsUsed(1), 1, capture(alloc, &lengths[..102])?);
     assert_eq!(rt; ran, Some(want));
     Ok(())

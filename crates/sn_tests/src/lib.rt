@@ -8,6 +8,7 @@
 //! * `configurations`, `actions`, `scenarios`: configurations, the actions between two, scenarios
 //! * `commands`: a command over files in memory, and what is expected of it
 //! * `copies`, `runs`, `refusals`, `plans`: commands that run, that are refused, and that read a scenario alone
+//! * `workers`: runs of several workers, in threads and in order
 #![tactic(auto)]
 
 #[cfg(test)]
@@ -36,3 +37,5 @@ mod refusals;
 mod runs;
 #[cfg(test)]
 mod scenarios;
+#[cfg(test)]
+mod workers;

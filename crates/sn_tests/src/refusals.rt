@@ -71,8 +71,8 @@ fn cut_third_record_is_told_by_its_number(rt: HostRuntime) -> Result<(), Fail> {
 fn refusals_name_their_file(rt: HostRuntime) -> Result<(), Fail> {
     let none = no_files(rt.alloc());
     expect_refusal(&rt, &["run", "s"], none, 1, "cannot read s\n", 2)?;
-    let two = "scenario 1\nworkers 2\n";
-    expect_no_run(&rt, two, None, 1, "not yet s\n", 3)?;
+    let stop = "scenario 1\nstop 0 0 0\n";
+    expect_no_run(&rt, stop, None, 1, "not yet s\n", 3)?;
     let once = scenario(rt.alloc(), 1)?;
     expect_no_run(&rt, once.as_str(), None, 2, "cannot read in.pcap\n", 2)
 }

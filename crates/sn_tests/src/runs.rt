@@ -11,21 +11,21 @@ use std::thread::Threads;
 
 /// What is expected of a run: its exit status, what is printed, and what was left.
 #[derive(Clone, Copy)]
-struct Want<'a> {
-    number: u8,
-    text: &'a str,
-    left: u64,
+pub struct Want<'a> {
+    pub number: u8,
+    pub text: &'a str,
+    pub left: u64,
 }
 
 /// Where nothing is left.
-const DRAINED: Want = Want {
+pub const DRAINED: Want = Want {
     number: 0,
     text: "status drained\n",
     left: 0,
 };
 
 /// Runs the scenario in the file `s`, compares how that ended with what is expected, and answers the report.
-fn expect_run<R: Threads + Sync + Abort + AllocGlobal>(
+pub fn expect_run<R: Threads + Sync + Abort + AllocGlobal>(
     rt: &R,
     files: &mut MemFiles,
     want: Want,
@@ -44,7 +44,7 @@ fn expect_run<R: Threads + Sync + Abort + AllocGlobal>(
 }
 
 /// Expects that the files hold these bytes under this name, or no file where there are none.
-fn expect_held<R: Abort + AllocGlobal>(
+pub fn expect_held<R: Abort + AllocGlobal>(
     rt: &R,
     files: &MemFiles,
     name: &str,
@@ -181,28 +181,12 @@ fn actions_that_were_not_applied_are_left_and_no_file_is_written(
     expect_held(&rt, &files, "out.pcap", None)
 }
 
-/// A worker that writes into one file in the first round and into another in the second.
-const MOVED: &str =
-    "scenario 1\nbreaths 3\nrounds 2\nconfig 0 0\napp r PcapReader in.pcap\napp w PcapWriter a.pcap\nlink r.output -> w.input\nend\nconfig 0 2\napp r PcapReader in.pcap\napp w PcapWriter b.pcap\nlink r.output -> w.input\nend\n";
-
-#[test]
-fn a_network_is_changed_between_rounds(rt: HostRuntime) -> Result<(), Fail> {
-    let lengths = [60; 250];
-    let input = capture(rt.alloc(), &lengths)?;
-    let mut files = files_of(rt.alloc(), "s", MOVED.as_bytes(), Some(&input), &[])?;
-    expect_run(&rt, &mut files, DRAINED)?;
-    let first = capture(rt.alloc(), &lengths[..204])?;
-    let second = capture(rt.alloc(), &lengths[204..])?;
-    expect_held(&rt, &files, "a.pcap", Some(&first))?;
-    expect_held(&rt, &files, "b.pcap", Some(&second))
-}
-
 /// A worker without a configuration, whose journal has a file.
 const EMPTY: &str = "scenario 1\nbreaths 2\nrounds 2\njournal j\n";
 
 /// The text of its journal.
 const EMPTY_JOURNAL: &str =
-    "worker 0\nround 1\nhear 0\nbreath\nhear 0\nbreath\nround 2\nhear 0\nbreath\nhear 0\nbreath\n";
+    "worker 0\nround 1\nhear 0\nbreath\nhear 0\nbreath\nround 2\nhear 0\nbreath\nhear 0\nbreath\nclose\nreclaimed\n";
 
 #[test]
 fn the_journal_is_written_into_its_file(rt: HostRuntime) -> Result<(), Fail> {
@@ -210,31 +194,4 @@ fn the_journal_is_written_into_its_file(rt: HostRuntime) -> Result<(), Fail> {
     let report = expect_run(&rt, &mut files, DRAINED)?;
     assert_eq!(rt; report.files.len(), 0);
     expect_held(&rt, &files, "j", Some(EMPTY_JOURNAL.as_bytes()))
-}
-
-/// Two hundred sources of which one gets the only packet, which stays in its link: the others run dry in every breath.
-fn dry_sources(alloc: Global) -> Result<String, AllocError> {
-    let mut text = String::from_str(
-        alloc,
-        "scenario 1\npool 1\nbreaths 1000\nrounds 100\nconfig 0 0\napp t Tee\n",
-    )?;
-    for i in 0..200_u32 {
-        let app = format!(in alloc; "app s{i} Source\nlink s{i}.output -> t.i{i}\n")?;
-        text.push_str(app.as_str())?;
-    }
-    text.push_str("end\n")?;
-    Ok(text)
-}
-
-#[test]
-fn a_full_journal_ends_the_run(rt: HostRuntime) -> Result<(), Fail> {
-    let words = dry_sources(rt.alloc())?;
-    let mut files = files_of(rt.alloc(), "s", words.as_str().as_bytes(), None, &[])?;
-    let want = Want {
-        number: 4,
-        text: "status journal-limit 0\n",
-        left: 1,
-    };
-    expect_run(&rt, &mut files, want)?;
-    Ok(())
 }

@@ -13,9 +13,9 @@ use Rattle.sn_app.proofs.Calling.{runs_left}
 use Rattle.sn_app.proofs.OnTrays.{tray_lost}
 use Rattle.sn_app.proofs.Readings.{stays_same}
 use Rattle.sn_journal.specs.declared.entry.Entry.{Entry}
-use Rattle.sn_journal.specs.declared.entry.Entry.TheVariants.{Hear, Round}
+use Rattle.sn_journal.specs.declared.entry.Entry.TheVariants.{Round}
 use Rattle.sn_link.specs.Link.{Line}
-use Rattle.sn_worker.specs.Own.{a_due, a_round}
+use Rattle.sn_worker.specs.Own.{a_round}
 
 -- what never changes stays
 pub noted_stays : (entry : Entry) (t s : Tray) → s ≡ after_entry entry t → Stays t s
@@ -39,16 +39,13 @@ on_tray_noted f entry t is may = record {
   };
 }
 
--- so many actions are due; the round of this number
-due_if : (b : Bool) → b ≡ true → ◌≡◌ {A = Option (Unit {0})} (if b then Some tt else None) (Some tt)
-due_if true e = refl
-due_if false e = absurd cc
-
-pub due_read : (due : ℕ) → a_due due (Hear due) ≡ Some tt
-due_read due = due_if (due == due) (eq-eqb due due refl)
+-- the round of this number
+found_if : (b : Bool) → b ≡ true → ◌≡◌ {A = Option (Unit {0})} (if b then Some tt else None) (Some tt)
+found_if true e = refl
+found_if false e = absurd cc
 
 pub round_read : (number : ℕ) → a_round number (Round number) ≡ Some tt
-round_read number = due_if (number == number) (eq-eqb number number refl)
+round_read number = found_if (number == number) (eq-eqb number number refl)
 
 -- the entry is read
 pub runs_noted : (f : Entry → Option (Unit {0})) (entry : Entry) (t s : Tray) (u v : Used) (slots : List (Option Line))

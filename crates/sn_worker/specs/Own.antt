@@ -3,7 +3,7 @@ use Rattle.std.specs.Prelude.{ℕ, ◌==◌, Bool, true, false, if◌then◌else
 use Rattle.sn_app.specs.Desk.{Tray}
 use Rattle.sn_journal.specs.Cost.{cost_of}
 use Rattle.sn_journal.specs.declared.entry.Entry.{Entry}
-use Rattle.sn_journal.specs.declared.entry.Entry.TheVariants.{Breath, Close, Hear, Round, Spent}
+use Rattle.sn_journal.specs.declared.entry.Entry.TheVariants.{Breath, Close, Round, Spent}
 
 -- an entry of the worker's own: a round, a breath, or that the journal is full
 abbrev pub is_own : Entry → Bool
@@ -12,14 +12,10 @@ is_own Breath = true
 is_own Spent = true
 is_own _ = false
 
--- the round of this number; that so many actions are due
+-- the round of this number
 abbrev pub a_round : ℕ → Entry → Option Unit
 a_round number (Round other) = if other == number then Some tt else None
 a_round number _ = None
-
-abbrev pub a_due : ℕ → Entry → Option Unit
-a_due due (Hear other) = if other == due then Some tt else None
-a_due due _ = None
 
 -- a breath; that the journal is full
 abbrev pub a_breath : Entry → Option Unit

@@ -5,7 +5,7 @@ use Rattle.sn_actions.specs.Plains.{apply_all}
 use Rattle.sn_actions.specs.declared.action.Action.{Action}
 use Rattle.sn_app.specs.Desk.{Tray}
 use Rattle.sn_app.specs.World.{Used, World}
-use Rattle.sn_network.specs.Networks.{CanBeLost, CanBreathe, kept_by, plain_in, shown, world_of}
+use Rattle.sn_network.specs.Networks.{CanBreathe, kept_by, plain_in, shown, world_of}
 use Rattle.sn_scenario.specs.PlanLaws.{committed}
 use Rattle.sn_worker.specs.Lives.{Life}
 use Rattle.sn_worker.specs.Slots.{SlotLife}
@@ -49,7 +49,3 @@ pub record CanWork (worker : Worker) (used : Used) (t : Tray) : Type 0 where
   pub within : IsWithin (plan_in worker) worker.applied worker.taken (plain_in worker.network)
   pub takes : CanTake (plan_in worker) empty_form
   pub finds : FindsAll (plan_in worker) t
-
--- its network may be lost, also after a halt
-abbrev pub CanEnd : Worker → Tray → Type 0
-CanEnd worker t = CanBeLost worker.network t

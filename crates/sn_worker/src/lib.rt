@@ -3,9 +3,7 @@
 //! - `work`: what a worker's turns need of a context beside the calls of its apps
 //! - `worker`: a worker
 //! - `taking`: how it takes actions
-//! - `turns`: its turns, and a round
-//! - `rounds`: the rounds of a scenario
-//! - `ending`: what it has left, and its end
+//! - `turns`: its breath, and its last turn
 //! - `seated`: what a slot's turns need of a context beside what a worker's need
 //! - `giving`: how a slot gives free packets back
 //! - `slot_turns`: the turns of a worker over a seat, and a round
@@ -16,10 +14,8 @@
 #![tactic(auto)]
 
 mod closing;
-mod ending;
 mod giving;
 mod live_work;
-mod rounds;
 mod seated;
 mod slot;
 mod slot_plan;
@@ -31,5 +27,5 @@ mod worker;
 
 pub use seated::Seated;
 pub use slot::{RoundEnd, Slot};
-pub use work::{Dues, Work};
+pub use work::Work;
 pub use worker::Worker;

@@ -1,5 +1,5 @@
 //! A slot: a worker with its seat, round by round.
-ghost use Rattle.std.specs.Prelude.{◌≡◌, ◌<◌, ℕ, All, [], false, if◌then◌else◌, IfOk, List, OnOk, Some, slice_get};
+ghost use Rattle.std.specs.Prelude.{◌≡◌, ℕ, All, [], false, if◌then◌else◌, IfOk, List, OnOk, Some, slice_get};
 ghost use Rattle.sn_actions.specs.PlainForms.{empty_form};
 ghost use Rattle.sn_app.specs.World.{desk_of, world};
 ghost use Rattle.sn_channel.specs.Ends.{IsSaid, last_said};

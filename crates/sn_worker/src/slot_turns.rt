@@ -4,7 +4,7 @@ ghost use Rattle.sn_app.specs.Reader.{stepping};
 ghost use Rattle.sn_app.specs.Runs.{Runs, stands_at};
 ghost use Rattle.sn_worker.specs.SlotTurns.{acting, one_slot_turn, slot_round, slot_turn, slot_work};
 ghost use Rattle.sn_worker.specs.Slots.{after_breath};
-ghost use Rattle.sn_worker.specs.Workers.{CanEnd, CanWork, kept_of, life_of, plan_in, slot_life_of, world_around};
+ghost use Rattle.sn_worker.specs.Workers.{CanWork, kept_of, life_of, plan_in, slot_life_of, world_around};
 
 use crate::giving::give_after;
 use crate::taking::take_due;
@@ -34,7 +34,6 @@ fn act<C: Work>(worker: &mut Worker, ctx: &mut C, due: u64) -> Result<(), Halt>
         (kept_of worker.old) (kept_of worker.new) (stands_at (life_of worker.new (C.used ctx.new) (C.tray ctx.new)) result) }
     ensures works { OnOk result (CanWork worker.new (C.used ctx.new) (C.tray ctx.new)) }
     ensures plan { plan_in worker.new ≡ plan_in worker.old }
-    ensures lost { CanEnd worker.new (C.tray ctx.new) }
     ensures lent { C.lender ctx.new ≡ C.lender ctx.old }
 {
     take_due(worker, ctx, due)?;

@@ -5,11 +5,11 @@ ghost use Rattle.sn_actions.specs.declared.action.Action.TheVariants.{Commit};
 ghost use Rattle.sn_app.specs.Runs.{Runs, stands_at};
 ghost use Rattle.sn_breath.specs.Breaths.{folding};
 ghost use Rattle.sn_network.specs.Acting.{acts};
-ghost use Rattle.sn_network.specs.Networks.{CanBeLost, IsStanding, kept_by, plain_in, shown, world_of};
+ghost use Rattle.sn_network.specs.Networks.{IsStanding, kept_by, plain_in, shown, world_of};
 ghost use Rattle.sn_scenario.specs.PlanLaws.{is_commit};
 ghost use Rattle.sn_worker.specs.Lives.{commits, next_actions, takes};
 ghost use Rattle.sn_worker.specs.Plans.{CanTake, FindsAll};
-ghost use Rattle.sn_worker.specs.Workers.{CanEnd, CanWork, kept_of, life_of, plan_in, world_around};
+ghost use Rattle.sn_worker.specs.Workers.{CanWork, kept_of, life_of, plan_in, world_around};
 
 use crate::Worker;
 use sn_actions::Action;
@@ -29,7 +29,6 @@ fn act_each<C: Ctx>(network: &mut Network, ctx: &mut C, actions: &[Action]) -> R
         (kept_by network.old) (kept_by network.new) (stands_at (shown network.new (C.used ctx.new) (C.tray ctx.new)) result) }
     ensures plain { OnOk result (apply_all actions.now (plain_in network.old) ≡ Ok (plain_in network.new)) }
     ensures stands { OnOk result (IsStanding network.new (C.used ctx.new) (C.tray ctx.new)) }
-    ensures lost { CanBeLost network.new (C.tray ctx.new) }
     ensures lent { C.lender ctx.new ≡ C.lender ctx.old }
 {
     for i in 0..actions.len() {
@@ -58,7 +57,6 @@ fn commit_next<C: Ctx>(worker: &mut Worker, ctx: &mut C) -> Result<(), Halt>
     ensures taken { OnOk result (worker.new.taken ≡ worker.old.taken + 1) }
     ensures plan { plan_in worker.new ≡ plan_in worker.old }
     ensures spent { worker.new.spent ≡ worker.old.spent }
-    ensures lost { CanEnd worker.new (C.tray ctx.new) }
     ensures lent { C.lender ctx.new ≡ C.lender ctx.old }
 {
     let (from, to) = (worker.applied, worker.taken);
@@ -81,7 +79,6 @@ fn take_one<C: Ctx>(worker: &mut Worker, ctx: &mut C) -> Result<(), Halt>
     ensures taken { OnOk result (worker.new.taken ≡ worker.old.taken + 1) }
     ensures plan { plan_in worker.new ≡ plan_in worker.old }
     ensures spent { worker.new.spent ≡ worker.old.spent }
-    ensures lost { CanEnd worker.new (C.tray ctx.new) }
     ensures lent { C.lender ctx.new ≡ C.lender ctx.old }
 {
     let next = worker.taken;
@@ -111,7 +108,6 @@ pub(crate) fn take_due<C: Ctx>(worker: &mut Worker, ctx: &mut C, due: u64) -> Re
     ensures works { OnOk result (CanWork worker.new (C.used ctx.new) (C.tray ctx.new)) }
     ensures plan { plan_in worker.new ≡ plan_in worker.old }
     ensures spent { worker.new.spent ≡ worker.old.spent }
-    ensures lost { CanEnd worker.new (C.tray ctx.new) }
     ensures lent { C.lender ctx.new ≡ C.lender ctx.old }
 {
     for taken in 0..count_due(worker, due) {

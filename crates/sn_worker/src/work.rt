@@ -1,13 +1,10 @@
 //! What a worker's turns need of a context beside the calls of its apps.
-ghost use Rattle.std.specs.Prelude.{◌≡◌, true, IfErr, IsTrue, OnErr, OnOk};
-ghost use Rattle.sn_app.specs.Bench.{tray_of};
+ghost use Rattle.std.specs.Prelude.{◌≡◌, true, IfErr, OnErr, OnOk};
 ghost use Rattle.sn_app.specs.Desk.{after_entry};
 ghost use Rattle.sn_app.specs.declared.halt.Halt.TheVariants.{OutOfMemory};
-ghost use Rattle.sn_journal.specs.declared.entry.Entry.TheVariants.{Hear};
-ghost use Rattle.sn_packet.specs.Hold.{used_of};
 ghost use Rattle.sn_worker.specs.Own.{is_full, is_own};
 
-use sn_app::{Bench, Ctx, Halt};
+use sn_app::{Ctx, Halt};
 use sn_journal::Entry;
 
 /// The cost from which on a journal is full: 128 MiB.
@@ -31,37 +28,4 @@ pub trait Work: Ctx {
     /// Whether the journal is full: its entries cost at least 134,217,728.
     fn is_full(&self) -> bool
         ensures { result ≡ is_full (Self.tray self.now) };
-}
-
-/// A context that a worker tells how many actions are due.
-pub trait Dues: Work {
-    /// Adds to the journal that so many actions are due.
-    ///
-    /// # Errors
-    /// Want of memory, and nothing changes.
-    fn note_due(&mut self, due: u64) -> Result<(), Halt>
-        ensures noted { OnOk result (Self.tray self.new ≡ after_entry (Hear due) (Self.tray self.old)) }
-        ensures may { (Self.tray self.old).log.constants.may (Hear due) ≡ true }
-        ensures refused { OnErr result (Self.tray self.new ≡ Self.tray self.old) }
-        ensures memory { IfErr result (λ halt. halt ≡ OutOfMemory) }
-        ensures used { Self.used self.new ≡ Self.used self.old }
-        ensures lent { Self.lender self.new ≡ Self.lender self.old };
-}
-
-impl Work for Bench {
-    fn note(&mut self, entry: Entry) -> Result<(), Halt> {
-        Bench::note(self, entry)?;
-        Ok(())
-    }
-
-    fn is_full(&self) -> bool {
-        self.journal().cost() >= FULL_COST
-    }
-}
-
-impl Dues for Bench {
-    fn note_due(&mut self, due: u64) -> Result<(), Halt> {
-        Bench::note(self, Entry::Hear(due))?;
-        Ok(())
-    }
 }

@@ -1,22 +1,21 @@
 //! A worker.
-ghost use Rattle.std.specs.Prelude.{◌≡◌, ◌<◌, ℕ, [], IfOk};
+ghost use Rattle.std.specs.Prelude.{◌≡◌, ℕ, []};
 ghost use Rattle.sn_actions.specs.PlainForms.{empty_form};
 ghost use Rattle.sn_app.specs.Desk.{Tray};
 ghost use Rattle.sn_app.specs.World.{Used, world};
-ghost use Rattle.sn_scenario.specs.Plans.{plan_of, roster_of};
 ghost use Rattle.sn_worker.specs.Lives.{new_life};
-ghost use Rattle.sn_worker.specs.Plans.{CanTake, FindsAll, Serves};
+ghost use Rattle.sn_worker.specs.Plans.{CanTake, FindsAll};
 ghost use Rattle.sn_worker.specs.Workers.{CanWork, kept_of, life_of, plan_in, world_around};
 
 use sn_actions::Action;
 use sn_network::Network;
-use sn_scenario::Scenario;
-use std::alloc::{AllocError, Global};
+use std::alloc::Global;
+use std::mem;
 
 /// A worker: its network, its plan, and how far it took and applied it.
 ///
 /// Contracts see it with the tray and the used packets of the context that it runs over, as its life (`life_of`). Every call is
-/// with a context of the same roster. After an error the worker is only given to `lose`.
+/// with a context of the same roster.
 #[derive(Drop)]
 pub struct Worker {
     pub(crate) network: Network,
@@ -47,24 +46,12 @@ impl Worker {
         }
     }
 
-    /// A worker of a scenario, by its number below the number of workers. It took no action of its plan.
-    ///
-    /// # Errors
-    /// Want of memory.
-    pub fn of_scenario(
-        alloc: Global,
-        scenario: &Scenario,
-        number: u32,
-    ) -> Result<Worker, AllocError>
-        requires { number < scenario.now.settings.workers }
-        ensures plan { IfOk result (λ worker. plan_in worker ≡ plan_of number scenario.now) }
-        ensures life { IfOk result (λ worker. (used : Used) (t : Tray) → life_of worker used t ≡ new_life) }
-        ensures works { IfOk result (λ worker. (used : Used) (t : Tray)
-            → Serves (roster_of number scenario.now) scenario.now.lanes number t → CanWork worker used t) }
-        ensures kept { IfOk result (λ worker. (place : ℕ) → kept_of worker place ≡ 0) }
-        ensures queues { IfOk result (λ worker. (used : Used) (t : Tray) → world_around worker used t ≡ world t used []) }
+    /// Takes its network out. An empty one stays.
+    pub(crate) fn take_network(&mut self, alloc: Global) -> Network
+        ensures network { result ≡ self.old.network }
+        ensures queues { (used : Used) (t : Tray) → world_around self.new used t ≡ world t used [] }
+        ensures plan { plan_in self.new ≡ plan_in self.old }
     {
-        let plan = scenario.plan(alloc, number)?;
-        Ok(Worker::new(alloc, plan))
+        mem::replace(&mut self.network, Network::new(alloc))
     }
 }

@@ -43,7 +43,6 @@ loop-i-preserved g c =
     let is : x ≡ get_or c.args.actions.now c.loop-i.i x = c.index-actions-i.is in
     record {
       stands = c.in_ok-apply.ensures.stands;
-      lost = c.apply.ensures.lost;
       lent = c.apply.ensures.lent ∙ c.loop-i.invariant.lent;
       finds = all_stay c.args.actions.now _ _ (run_stays _ _ _ _ _ _ c.in_ok-apply.ensures.runs) c.loop-i.invariant.finds;
       plain =

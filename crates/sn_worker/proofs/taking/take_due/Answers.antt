@@ -40,7 +40,6 @@ loop-taken-preserved g c =
       works = c.in_ok-take_one.ensures.works;
       plan = c.take_one.ensures.plan ∙ c.loop-taken.invariant.plan;
       spent = c.take_one.ensures.spent ∙ c.loop-taken.invariant.spent;
-      lost = c.take_one.ensures.lost;
       lent = c.take_one.ensures.lent ∙ c.loop-taken.invariant.lent;
       taken = omega (arith, was, one);
       onward =

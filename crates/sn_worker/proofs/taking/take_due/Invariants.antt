@@ -1,7 +1,7 @@
 use Rattle.std.proofs.Common.{◌≡◌, ◌+◌}
 use Rattle.sn_breath.proofs.Folds.{Onward}
 use Rattle.sn_worker.specs.Lives.{next_actions, takes}
-use Rattle.sn_worker.specs.Workers.{CanEnd, CanWork, kept_of, life_of, plan_in, world_around}
+use Rattle.sn_worker.specs.Workers.{CanWork, kept_of, life_of, plan_in, world_around}
 use Rattle.sn_worker.proofs.taking.take_due.Given as goal
 
 -- so many actions were taken, and however those that are left are taken, all are from the start
@@ -10,7 +10,6 @@ invariant-loop-taken g l = record {
   works : CanWork l.worker (g.C.Ctx.used l.ctx) (g.C.Ctx.tray l.ctx);
   plan : plan_in l.worker ≡ plan_in l.fn.worker;
   spent : l.worker.spent ≡ l.fn.worker.spent;
-  lost : CanEnd l.worker (g.C.Ctx.tray l.ctx);
   lent : g.C.Ctx.lender l.ctx ≡ g.C.Ctx.lender l.fn.ctx;
   taken : l.worker.taken ≡ l.fn.worker.taken + l.taken;
   onward :

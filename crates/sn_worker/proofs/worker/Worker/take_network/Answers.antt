@@ -1,4 +1,4 @@
--- answers of src/ending.rt, Worker::take_network
+-- answers of src/worker.rt, Worker::take_network
 use Rattle.std.proofs.Common.{ap, ◌∙◌}
 use Rattle.sn_network.specs.Networks.{world_of}
 use Rattle.sn_network.specs.declared.network.Network.{Network}
