@@ -1,7 +1,8 @@
 #!/usr/bin/env python3
-"""Makes in.pcap in the current folder: records numbered from 1, each of one length, and each byte is the record's number.
+"""Makes in.pcap in the current folder: records numbered from 1, each of one length, and each byte is the record's number
+modulo 256.
 
-The words are how many records (at most 255), and the length of each.
+The words are how many records, and the length of each.
 """
 
 import struct
@@ -13,7 +14,7 @@ def main():
     with open("in.pcap", "wb") as out:
         out.write(struct.pack("<IHHIIII", 0xA1B2C3D4, 2, 4, 0, 0, 65535, 1))
         for number in range(1, count + 1):
-            out.write(struct.pack("<IIII", number, 0, length, length) + bytes([number]) * length)
+            out.write(struct.pack("<IIII", number, 0, length, length) + bytes([number % 256]) * length)
 
 
 if __name__ == "__main__":
