@@ -1,4 +1,4 @@
-"""What bench/copy and bench/engine share: captures, and the time and memory of a program."""
+"""What bench/copy, bench/engine and bench/handover share: captures, and the time and memory of a program."""
 
 import multiprocessing
 import os
