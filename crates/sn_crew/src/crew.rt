@@ -7,7 +7,7 @@ use std::alloc::Global;
 
 /// The workers of a scenario, with what they share and their manager, between two rounds.
 ///
-/// Contracts see it as its workers' stands (`stands_in`), and how far it is (`AfterAll`).
+/// Contracts see it as its workers' stands (`stands_in`), and how far it is (`IsUnderway`).
 #[derive(Drop)]
 pub struct Crew {
     pub(crate) alloc: Global,
