@@ -39,8 +39,6 @@ mod peeks;
 mod ports;
 mod roster_rows;
 mod tape;
-#[cfg(test)]
-mod tests;
 mod verbs;
 
 pub use app::App;

@@ -11,8 +11,6 @@ mod channel;
 mod listener;
 mod plays;
 mod speaker;
-#[cfg(test)]
-mod tests;
 mod view;
 
 pub use channel::Channel;

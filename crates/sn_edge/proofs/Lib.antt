@@ -1,4 +1,3 @@
 mod Starting
 mod Records
-mod Alone
 mod Counting

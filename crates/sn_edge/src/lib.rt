@@ -11,8 +11,6 @@ mod lesser;
 mod pcap_reader;
 mod pcap_writer;
 mod receiver;
-#[cfg(test)]
-mod tests;
 mod transmitter;
 
 pub use pcap_reader::PcapReader;

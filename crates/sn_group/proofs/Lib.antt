@@ -7,3 +7,4 @@ pub mod Dealing
 pub mod Closing
 pub mod CellsRead
 pub mod Events
+mod WordExample

@@ -23,8 +23,6 @@ mod plays;
 mod receipt;
 mod seat;
 mod take_scan;
-#[cfg(test)]
-mod tests;
 mod view;
 mod way;
 mod words;

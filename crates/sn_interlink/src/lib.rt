@@ -19,8 +19,6 @@ mod plays;
 mod receipt;
 mod rx_end;
 mod step_laws;
-#[cfg(test)]
-mod tests;
 mod tx_end;
 mod view;
 

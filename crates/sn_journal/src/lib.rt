@@ -40,6 +40,3 @@ pub use outlining::outline;
 pub use payload::Payload;
 pub use slot_state::SlotState;
 pub use text_laws::{one_outline, text_reads_back};
-
-#[cfg(test)]
-mod tests;

@@ -6,8 +6,6 @@
 
 mod counts;
 mod link;
-#[cfg(test)]
-mod tests;
 
 pub use counts::LinkCounts;
 pub use link::{Link, MAX_QUEUED};

@@ -25,8 +25,6 @@ mod orders;
 mod place;
 mod ports;
 mod starting;
-#[cfg(test)]
-mod tests;
 mod verb;
 
 pub use network::Network;

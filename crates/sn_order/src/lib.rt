@@ -10,7 +10,5 @@ mod names;
 mod orders;
 mod ranks;
 mod targets;
-#[cfg(test)]
-mod tests;
 
 pub use orders::{pull_order, push_order};

@@ -8,8 +8,6 @@
 mod buffer;
 mod hold;
 mod packet;
-#[cfg(test)]
-mod tests;
 
 pub use buffer::MAX_PAYLOAD;
 pub use hold::Hold;

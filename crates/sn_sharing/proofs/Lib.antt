@@ -13,4 +13,3 @@ mod LaidTurns
 mod SeatedTurns
 mod NewEnds
 mod OpenedSeats
-mod OpenedCloses

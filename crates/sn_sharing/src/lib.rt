@@ -17,8 +17,6 @@ mod lane_ends;
 mod laying;
 mod opening;
 mod seating;
-#[cfg(test)]
-mod tests;
 
 pub use closing::{Closed, close};
 pub use opening::{Opened, open};

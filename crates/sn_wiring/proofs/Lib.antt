@@ -5,7 +5,6 @@ pub mod Staying
 mod Losses
 mod Queued
 mod Scans
-pub mod Singles
 pub mod Fits
 pub mod Lines
 pub mod Comings

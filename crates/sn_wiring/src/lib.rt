@@ -11,8 +11,6 @@ mod coming;
 mod going;
 mod keys;
 mod losing;
-#[cfg(test)]
-mod tests;
 mod wires;
 
 pub use coming::open_link;

@@ -1,5 +1,0 @@
-use Rattle.std.proofs.Common.{◌≡◌}
-use Rattle.sn_channel.proofs.tests.hear_evens.Given as goal
-
-abbrev pub invariant-loop : goal.invariant-loop
-invariant-loop l = l.listener.channel ≡ l.channel

@@ -1,6 +1,0 @@
-use Rattle.sn_app.specs.World.{desk_of}
-use Rattle.sn_edge.proofs.tests.pull_once.Goals as goal
-
-pub returns-clause-stays : goal.returns-clause-stays
-unfolding desk_of
-returns-clause-stays g c = c.pull-ended.ensures.runs.answers.stays
