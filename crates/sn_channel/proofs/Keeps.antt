@@ -2,12 +2,13 @@
 use Rattle.std.proofs.Common.{◌≡◌, ◌≢◌, ℕ, zero, suc, ◌≤◌, ◌<◌, max, List, [], ◌∷◌, ◌++◌, length, set, true, false, true≢false, All, Contains, refl, sym, ap, ap₂, ◌∙◌, subst, inl, inr, ⊎_elim, arith}
 use Rattle.std.specs.Prelude.{slice_index, slice_set, slice_index_or}
 use Rattle.std.proofs.lemmas.List.Elements.{All-nil, All-push, All-weaker}
+use Rattle.std.proofs.lemmas.List.Quantifiers.{all_pairs_push}
 use mathlib.Core.Option.{some, some-ne-none, some-injective, none}
 use lib.ListN.{get_elem?}
 use Rattle.atomic_table.specs.Table.{State, Me, step, stepped, keeps, opening, Allows, Splits, Joins}
 use Rattle.atomic_table.proofs.Lists.{at_set, at_snoc, set_again}
 use Rattle.sn_channel.specs.declared.view.View.{View}
-use Rattle.sn_channel.specs.Ends.{last_said, IsSaid}
+use Rattle.sn_channel.specs.Ends.{last_said, IsRising, IsSaid}
 use Rattle.sn_channel.specs.Rule.{speaker, listener, note, nobody, learned, collected, Knows, Follows, Saying, Hearing, Comparing, Looking}
 
 pub last_said-push : (said : List ℕ) (n : ℕ) → last_said (said ++ n ∷ []) ≡ n
@@ -28,6 +29,10 @@ last_is_said : (said : List ℕ) → IsSaid said (last_said said)
 last_is_said [] = inl refl
 last_is_said (n ∷ []) = inr (0, omega arith, refl)
 last_is_said (n ∷ m ∷ said) = ⊎_elim (λ e. inl e) (λ c. inr (suc c.0, omega (arith, c.1), c.2)) (last_is_said (m ∷ said))
+
+-- no numbers rise
+rises-none : IsRising []
+rises-none i j d before within = absurd (omega (arith, within))
 
 off : false ≡ true → ⊥
 off e = true≢false (sym e)
@@ -52,7 +57,7 @@ pub begins : Follows (opening (0 ∷ []) [] (speaker []))
 begins = record { said = []; word = refl; knows = one }
   where
     first : Knows [] 0 (speaker [])
-    first = record { speaks = λ _. (refl, refl); among = All-nil _; most = All-nil _; reached = omega arith }
+    first = record { speaks = λ _. (refl, refl); among = All-nil _; most = All-nil _; rises = rises-none; reached = omega arith }
 
     one : (seat : ℕ) (v : View) → get_elem? (speaker [] ∷ []) seat ≡ some v → Knows [] seat v
     one zero v e = subst (Knows [] 0) (some-injective _ _ e) first
@@ -65,6 +70,7 @@ knows_more said n seat v le silent k =
       speaks = λ e. absurd (silent e);
       among = All-weaker (IsSaid said) (IsSaid (said ++ n ∷ [])) (λ h. is_said-more said n h) v.heard k.among;
       most = All-weaker (λ h. h ≤ last_said said) (λ h. h ≤ last_said (said ++ n ∷ [])) (λ h m. omega (arith, m, le, last)) v.heard k.most;
+      rises = k.rises;
       reached = omega (arith, k.reached, le, last);
     }
 
@@ -85,7 +91,7 @@ says slots by n said le s k homes at bound =
         word = ap₂ (λ ws m. slice_set ws 0 m) k.word new;
         knows = knows_set (k.said ++ n ∷ []) s.views by w
             (λ seat v apart e. knows_more k.said n seat v (omega (arith, le, same)) (λ speaks. absurd (apart (((k.knows seat v e).speaks speaks).0 ∙ sym known.0))) (k.knows seat v e))
-            (record { speaks = λ _. (known.0, ap (λ l. l ++ n ∷ []) known.1); among = All-nil _; most = All-nil _; reached = omega (arith, last) });
+            (record { speaks = λ _. (known.0, ap (λ l. l ++ n ∷ []) known.1); among = All-nil _; most = All-nil _; rises = rises-none; reached = omega (arith, last) });
       },
       refl,
     )
@@ -103,6 +109,8 @@ hears slots by heard met s k homes at bound =
         speaks = λ e. absurd (off e);
         among = All-push (IsSaid k.said) heard n mine.among (subst (IsSaid k.said) found (last_is_said k.said));
         most = All-push (λ h. h ≤ last_said k.said) heard n mine.most (omega (arith, found));
+        rises = all_pairs_push (λ a b. a ≤ b) heard n mine.rises
+            (All-weaker (λ h. h ≤ last_said k.said) (λ h. h ≤ n) (λ h m. omega (arith, m, found)) heard mine.most);
         reached = mine.reached;
       }),
       (refl, All-weaker (λ h. h ≤ last_said k.said) (λ h. h ≤ n) (λ h m. omega (arith, m, found)) heard mine.most, omega (arith, mine.reached, found)),
@@ -115,8 +123,13 @@ compares slots by said heard s k homes at bound =
       speaker said,
       keeps,
       tt,
-      stays s k by [] (speaker said) (record { speaks = λ _. known; among = All-nil _; most = All-nil _; reached = mine.reached }),
-      (refl, subst (λ l. All (IsSaid l) heard) (sym known.1) mine.among, subst (λ l. All (λ n. n ≤ last_said l) heard) (sym known.1) mine.most),
+      stays s k by [] (speaker said) (record { speaks = λ _. known; among = All-nil _; most = All-nil _; rises = rises-none; reached = mine.reached }),
+      (
+        refl,
+        subst (λ l. All (IsSaid l) heard) (sym known.1) mine.among,
+        subst (λ l. All (λ n. n ≤ last_said l) heard) (sym known.1) mine.most,
+        mine.rises,
+      ),
     )
 
 pub looks : (slots by : ℕ) (v : View) → Allows Follows slots by (v, []) 0 (λ m. m) (Looking (step slots 0 0 0 none) (v, []))
@@ -130,7 +143,7 @@ notes by v s k at =
       word = k.word;
       knows = λ seat u e. ⊎_elim
           (λ was. k.knows seat u (subst (λ l. get_elem? l seat ≡ some u) (set_again s.views by v at) was))
-          (λ (same : note v ≡ u). subst (Knows k.said seat) same (record { speaks = λ x. absurd (off x); among = mine.among; most = mine.most; reached = mine.reached }))
+          (λ (same : note v ≡ u). subst (Knows k.said seat) same (record { speaks = λ x. absurd (off x); among = mine.among; most = mine.most; rises = mine.rises; reached = mine.reached }))
           (at_snoc (set s.views by v) (note v) u seat e);
     }
 
@@ -144,14 +157,14 @@ joins by v other u both adds s k at apart there =
       word = k.word;
       knows = knows_set k.said (set s.views by both) other nobody
           (λ seat w _ e. knows_set k.said s.views by both (λ i y _ e'. k.knows i y e') mine seat w e)
-          (record { speaks = λ x. absurd (off x); among = All-nil _; most = All-nil _; reached = omega arith });
+          (record { speaks = λ x. absurd (off x); among = All-nil _; most = All-nil _; rises = rises-none; reached = omega arith });
     }
 
 pub learns : (by : ℕ) (v : View) (other : ℕ) (u : View) → Joins Follows by v other u (learned v u) nobody
-learns by v other u = joins by v other u (learned v u) (λ said mine theirs. record { speaks = mine.speaks; among = mine.among; most = mine.most; reached = theirs.reached })
+learns by v other u = joins by v other u (learned v u) (λ said mine theirs. record { speaks = mine.speaks; among = mine.among; most = mine.most; rises = mine.rises; reached = theirs.reached })
 
 pub collects : (by : ℕ) (v : View) (other : ℕ) (u : View) → Joins Follows by v other u (collected v u) nobody
-collects by v other u = joins by v other u (collected v u) (λ said mine theirs. record { speaks = mine.speaks; among = theirs.among; most = theirs.most; reached = mine.reached })
+collects by v other u = joins by v other u (collected v u) (λ said mine theirs. record { speaks = mine.speaks; among = theirs.among; most = theirs.most; rises = theirs.rises; reached = mine.reached })
 
 -- the steps of an end whose seat's state is known by an equation
 pub says_as : (slots by n : ℕ) (said : List ℕ) (me : Me ℕ View) → me ≡ (speaker said, []) → last_said said ≤ n → Allows Follows slots by me 0 (λ m. max m n) (Saying (step slots 0 n 0 none) me)

@@ -1,5 +1,5 @@
 -- What contracts see of the two ends: the numbers that were said, and the words that were heard.
-use Rattle.std.specs.Prelude.{◌≡◌, ◌⊎◌, ℕ, List, [], ◌∷◌, Contains}
+use Rattle.std.specs.Prelude.{◌≡◌, ◌⊎◌, ◌≤◌, ℕ, AllPairs, List, [], ◌∷◌, Contains}
 use Rattle.atomic_table.specs.Seated.{TableId}
 
 -- which channel it is
@@ -33,3 +33,7 @@ last_said (n ∷ m ∷ said) = last_said (m ∷ said)
 -- the number is 0 or was said
 abbrev pub IsSaid : List ℕ → ℕ → Type 0
 IsSaid said n = (n ≡ 0) ⊎ Contains said n
+
+-- no number is less than one before it
+abbrev pub IsRising : List ℕ → Type 0
+IsRising numbers = AllPairs (λ before n. before ≤ n) numbers

@@ -4,7 +4,7 @@ use mathlib.Core.Option.{some}
 use lib.ListN.{get_elem?}
 use Rattle.atomic_table.specs.Table.{State, Me, Step}
 use Rattle.sn_channel.specs.declared.view.View.{View}
-use Rattle.sn_channel.specs.Ends.{last_said, IsSaid}
+use Rattle.sn_channel.specs.Ends.{last_said, IsRising, IsSaid}
 
 -- the speaker's view, where it said these
 abbrev pub speaker : List ℕ → View
@@ -30,11 +30,12 @@ abbrev pub collected : View → View → View
 collected v told = record v { heard = told.heard }
 
 -- What a seat knows where these numbers were said: the speaker is seat 0 and knows them all,
--- each word that was heard is 0 or among them, and none is more than the last
+-- each word that was heard is 0 or among them, none is more than the last, and none is less than one before it
 pub record Knows (said : List ℕ) (seat : ℕ) (v : View) : Type 0 where
   pub speaks : v.speaks ≡ true → (seat ≡ 0) × (v.said ≡ said)
   pub among : All (IsSaid said) v.heard
   pub most : All (λ n. n ≤ last_said said) v.heard
+  pub rises : IsRising v.heard
   pub reached : v.reached ≤ last_said said
 
 -- the word is the number said last, and each seat knows its part
@@ -54,12 +55,13 @@ Hearing step me found after =
     × All (λ n. n ≤ found) me.0.heard
     × (me.0.reached ≤ found)
 
--- what was heard is 0 or was said, and no more than the number said last; the speaker keeps nothing of it
+-- what was heard is 0 or was said, no more than the number said last, and never fell; the speaker keeps nothing of it
 abbrev pub Comparing : Step ℕ → Me ℕ View → ℕ → Me ℕ View → Type 0
 Comparing step me found after =
     (after ≡ (record me.0 { heard = [] }, me.1))
     × All (IsSaid me.0.said) me.0.heard
     × All (λ n. n ≤ last_said me.0.said) me.0.heard
+    × IsRising me.0.heard
 
 -- nothing is learned
 abbrev pub Looking : Step ℕ → Me ℕ View → ℕ → Me ℕ View → Type 0

@@ -1,6 +1,6 @@
 // The end that hears the word, and meets the speaker.
 ghost use Rattle.std.specs.Prelude.{◌≡◌, ◌≤◌, [], ◌∷◌, ◌++◌, All};
-ghost use Rattle.sn_channel.specs.Ends.{listener_log, last_said, IsSaid};
+ghost use Rattle.sn_channel.specs.Ends.{listener_log, last_said, IsRising, IsSaid};
 
 use crate::channel::Channel;
 use crate::plays::{Hears, Learns, Looks, Note};
@@ -41,13 +41,14 @@ impl Listener {
     }
 
     /// The two ends meet in one thread. From now on the listener hears at least what the speaker
-    /// has said last, and what it has heard so far is 0 or was said.
+    /// has said last. What it has heard so far is 0 or was said, and never fell.
     pub fn meet(&mut self, channel: &Channel, speaker: &mut Speaker)
         requires listener { self.old.channel ≡ channel.now }
         requires speaker { speaker.old.channel ≡ channel.now }
         ensures met { self.new.met ≡ last_said speaker.old.said }
         ensures among { All (IsSaid speaker.old.said) self.old.heard }
         ensures most { All (λ n. n ≤ last_said speaker.old.said) self.old.heard }
+        ensures rises { IsRising self.old.heard }
         ensures heard { self.new.heard ≡ self.old.heard }
         ensures channel { self.new.channel ≡ self.old.channel }
         ensures speaker { speaker.new ≡ speaker.old }

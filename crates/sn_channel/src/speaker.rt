@@ -1,6 +1,6 @@
 // The end that says numbers.
 ghost use Rattle.std.specs.Prelude.{◌≡◌, ◌≤◌, [], ◌∷◌, ◌++◌, All};
-ghost use Rattle.sn_channel.specs.Ends.{last_said, IsSaid};
+ghost use Rattle.sn_channel.specs.Ends.{last_said, IsRising, IsSaid};
 
 use crate::channel::Channel;
 use crate::listener::Listener;
@@ -45,6 +45,7 @@ impl Speaker {
         requires listener { listener.old.channel ≡ channel.now }
         ensures among { All (IsSaid self.old.said) listener.old.heard }
         ensures most { All (λ n. n ≤ last_said self.old.said) listener.old.heard }
+        ensures rises { IsRising listener.old.heard }
         ensures speaker { self.new ≡ self.old }
         ensures listener { listener.new ≡ listener.old }
     {

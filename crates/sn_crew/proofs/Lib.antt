@@ -1,4 +1,6 @@
 pub mod OwnEnds
+pub mod FirstHeard
+pub mod DueHeard
 pub mod Working
 pub mod SpeakersMet
 pub mod Placing

@@ -74,7 +74,7 @@ module _ (form : ScenarioForm) (shared : Shared) (worker : ℕ) (seat : Seat) (s
         keep = keep;
         can = can serves;
       };
-      after = λ heard. at_opening form caps worker (stand_of shared slot) (stand_is life desk);
+      after = λ heard rises. at_opening form caps worker (stand_of shared slot) (stand_is life desk);
     };
     lacks_none = refl;
   }

@@ -1,7 +1,7 @@
 -- A slot that met its worker's speaker, and speakers that stay.
 use Rattle.std.proofs.Common.{◌≡◌, ◌∙◌, ℕ, zero, suc, All, List, refl, sym, ap}
 use Rattle.std.proofs.Common.{subst}
-use Rattle.sn_channel.specs.Ends.{IsSaid, last_said}
+use Rattle.sn_channel.specs.Ends.{IsRising, IsSaid, last_said}
 use Rattle.sn_channel.proofs.Keeps.{last_said-push}
 use Rattle.sn_scenario.specs.Plans.{due_of}
 use Rattle.sn_scenario.specs.Scenarios.{ScenarioForm}
@@ -35,9 +35,10 @@ module _ (form : ScenarioForm) (shared : Shared) (rounds worker : ℕ) (before a
       → ((captures : List (List ℕ)) → slot_tray captures after ≡ slot_tray captures before)
       → slot_used after ≡ slot_used before → after ≡ record before { seat = slot_seat after } → SlotFits after shared
       → All (IsSaid said) (of_channel (slot_tray (captures_of shared) before).log.past)
+      → IsRising (of_channel (slot_tray (captures_of shared) before).log.past)
       → SlotAfter form shared rounds worker after
   unfolding stand_by
-  met was said_is bond tray used same fits among =
+  met was said_is bond tray used same fits among rises =
       let caps = captures_of shared in
       let worker_is : after.worker ≡ before.worker = ap (λ (s : Slot). s.worker) same in
       let breathed_is : after.breathed ≡ before.breathed = ap (λ (s : Slot). s.breathed) same in
@@ -71,6 +72,6 @@ module _ (form : ScenarioForm) (shared : Shared) (rounds worker : ℕ) (before a
             open_yet = ap (λ (s : Slot). s.closed) same ∙ was.of.can.open_yet;
           };
         };
-        after = subst (AfterRounds form caps worker rounds) (sym stand_is) (was.after heard);
+        after = subst (AfterRounds form caps worker rounds) (sym stand_is) (was.after heard rises);
         met = ap (λ b. b.wiring.met) bond ∙ (ap last_said said_is ∙ last_due form worker rounds);
       }

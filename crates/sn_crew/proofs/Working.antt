@@ -15,6 +15,7 @@ use Rattle.sn_worker.specs.Slots.{SlotLife}
 use Rattle.sn_worker.specs.declared.slot.Slot.{Slot}
 use Rattle.sn_crew.specs.Crews.{SlotAfter, SlotUnmet, stand_of}
 use Rattle.sn_crew.specs.Stands.{AfterRounds, RoundMade, RoundRead, Stand}
+use Rattle.sn_crew.proofs.DueHeard.{made}
 
 -- one round more was made
 pub after_more : (form : ScenarioForm) (captures : List (List ℕ)) (worker rounds : ℕ) (from to : Stand)
@@ -61,6 +62,7 @@ module _ (form : ScenarioForm) (shared : Shared) (rounds worker : ℕ) (before a
       keep = same.keep ∙ was.of.keep;
       can = can;
     };
-    after = λ heard. after_more form (captures_of shared) worker rounds (stand_of shared before) (stand_of shared after)
-        was.after (record { read = round_read was unspent read; heard = heard });
+    after = λ heard rises. after_more form (captures_of shared) worker rounds (stand_of shared before) (stand_of shared after)
+        was.after (made form worker rounds (stand_of shared before) (stand_of shared after) (round_read was unspent read)
+        heard rises);
   }

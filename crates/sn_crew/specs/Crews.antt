@@ -1,7 +1,7 @@
 -- The workers of a run between two rounds.
 use Rattle.std.specs.Prelude.{ℕ, ◌≡◌, ◌+◌, ◌≤◌, All, Bool, true, false, List, Some, length, map, slice_get}
 use Rattle.std.specs.List.{list_any}
-use Rattle.sn_channel.specs.Ends.{IsSaid, SpeakerLog}
+use Rattle.sn_channel.specs.Ends.{IsRising, IsSaid, SpeakerLog}
 use Rattle.sn_manager.specs.Managers.{AreOf, due_in, speakers_in}
 use Rattle.sn_manager.specs.Saying.{NoneAhead}
 use Rattle.sn_scenario.specs.Plans.{due_of, plan_of}
@@ -42,10 +42,12 @@ pub record SlotAfter (form : ScenarioForm) (shared : Shared) (rounds worker : �
   pub after : AfterRounds form (captures_of shared) worker rounds (stand_of shared slot)
   pub met : slot_met slot ≡ due_of worker rounds form
 
--- a slot that will have made so many rounds once it met its worker's speaker, if all that it heard was said up to the last
+-- a slot that will have made so many rounds once it met its worker's speaker, if all that it heard was said up to the last and
+-- never fell
 pub record SlotUnmet (form : ScenarioForm) (shared : Shared) (rounds worker : ℕ) (slot : Slot) : Type 0 where
   pub of : IsSlotOf form shared worker slot
   pub after : All (IsSaid (said_by form worker rounds)) (of_channel (slot_tray (captures_of shared) slot).log.past)
+      → IsRising (of_channel (slot_tray (captures_of shared) slot).log.past)
       → AfterRounds form (captures_of shared) worker rounds (stand_of shared slot)
 
 -- its place before a round, and after its work in the one behind so many

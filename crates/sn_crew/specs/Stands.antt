@@ -1,8 +1,8 @@
 -- A worker between two rounds, and how rounds lead from one stand to the next.
-use Rattle.std.specs.Prelude.{ℕ, ◌≡◌, ◌+◌, zero, suc, All, List, [], ◌∷◌, ◌++◌, None, false}
+use Rattle.std.specs.Prelude.{ℕ, ◌≡◌, ◌⊎◌, ◌+◌, zero, suc, All, List, [], ◌∷◌, ◌++◌, None, false}
 use Rattle.sn_app.specs.Desk.{Desk}
 use Rattle.sn_app.specs.Reader.{done}
-use Rattle.sn_channel.specs.Ends.{IsSaid}
+use Rattle.sn_channel.specs.Ends.{IsRising, IsSaid}
 use Rattle.sn_journal.specs.declared.entry.Entry.{Entry}
 use Rattle.sn_scenario.specs.Plans.{due_of, plan_of}
 use Rattle.sn_scenario.specs.Scenarios.{ScenarioForm}
@@ -39,10 +39,17 @@ pub record RoundRead (form : ScenarioForm) (worker before : ℕ) (from to : Stan
       (before + 1) from.life from.desk (entries ++ rest)
       ≡ done to.life to.desk rest
 
--- and after it all that the worker heard so far is 0, or was due in a round up to this one
+-- a number was due to a worker in the last of so many rounds, or is due in the one behind them
+abbrev pub IsDueIn : ScenarioForm → ℕ → ℕ → ℕ → Type 0
+IsDueIn form worker before n = (n ≡ due_of worker before form) ⊎ (n ≡ due_of worker (before + 1) form)
+
+-- And each number that the worker hears in it is due in it or in the round before. All that it heard so far is 0, or was due in
+-- a round up to this one, and never fell.
 pub record RoundMade (form : ScenarioForm) (worker before : ℕ) (from to : Stand) : Type 0 where
   pub read : RoundRead form worker before from to
+  pub due : All (IsDueIn form worker before) (of_channel read.entries)
   pub heard : All (IsSaid (said_by form worker (before + 1))) (of_channel to.desk.tray.log.past)
+  pub rises : IsRising (of_channel to.desk.tray.log.past)
 
 -- so many rounds were made, one after another, from the opening on
 unfoldable pub AfterRounds : ScenarioForm → List (List ℕ) → ℕ → ℕ → Stand → Type 0

@@ -91,8 +91,7 @@ impl Crew {
         left.min(u64::MAX as u128) as u64
     }
 
-    /// Ends the run: each worker is closed, by its number, and then what they shared. All rounds were made, or one was the last
-    /// since a worker's journal was full.
+    /// Ends the run behind its last round: each worker is closed, by its number, and then what they shared.
     ///
     /// # Errors
     /// Want of memory.

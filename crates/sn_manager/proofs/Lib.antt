@@ -1,2 +1,2 @@
-mod DueGrows
+pub mod DueGrows
 mod SaidTo

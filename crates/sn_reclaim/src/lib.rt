@@ -1,4 +1,4 @@
-//! The reclamation of a stopped worker's packets.
+//! The reclamation of a worker's packets, when it was closed or stopped.
 #![tactic(auto)]
 
 mod giving;

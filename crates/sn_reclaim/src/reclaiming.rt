@@ -1,4 +1,4 @@
-//! A reclamation: what a stopped worker's seat holds goes back.
+//! A reclamation: what the seat of a worker holds that was closed or stopped goes back.
 ghost use Rattle.std.specs.Prelude.{◌≡◌, [], None, OnOk, ℕ};
 ghost use Rattle.sn_core.specs.declared.events.Side.{Side};
 ghost use Rattle.sn_packet.specs.Hold.{at_of};

@@ -7,7 +7,7 @@ use sn_app::Halt;
 use sn_journal::Entry;
 use sn_outside::Gate;
 
-/// What is called before each step of a seat that others can see. It is a gate without what threads ask of it.
+/// What is called at each gate of a seat that stands (`stands` of `sn_app`). It is a gate without what threads ask of it.
 pub trait Before {
     /// Comes before the step of a worker's seat that follows so many entries and so many gates.
     fn before(&self, seat: u32, entries: u64, gates: u32);

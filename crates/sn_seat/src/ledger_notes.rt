@@ -6,7 +6,7 @@ use std::alloc::AllocError;
 
 impl Ledger {
     ghost use Rattle.std.specs.Prelude.{◌≡◌, ◌≤◌, ◌∷◌, ◌++◌, [], All, OnOk};
-    ghost use Rattle.sn_channel.specs.Ends.{IsSaid, last_said};
+    ghost use Rattle.sn_channel.specs.Ends.{IsRising, IsSaid, last_said};
     ghost use Rattle.sn_seat.specs.Ledgers.{SameBook, wiring_of};
     ghost use Rattle.sn_seat.specs.Notes.{IsPlain};
     ghost use Rattle.sn_seat.specs.Told.{of_channel};
@@ -68,6 +68,7 @@ impl Ledger {
         ensures met { self.new.listener.met ≡ last_said speaker.old.said }
         ensures among { All (IsSaid speaker.old.said) (of_channel self.old.journal.entries) }
         ensures most { All (λ n. n ≤ last_said speaker.old.said) (of_channel self.old.journal.entries) }
+        ensures rises { IsRising (of_channel self.old.journal.entries) }
         ensures journal { self.new.journal ≡ self.old.journal }
         ensures hold { self.new.hold ≡ self.old.hold }
         ensures ends { self.new.ends ≡ self.old.ends }

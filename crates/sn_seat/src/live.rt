@@ -10,7 +10,7 @@ use sn_journal::Entry;
 use sn_outside::Gate;
 use std::alloc::AllocError;
 
-/// A seat with what it shares and with the gate before each of its steps.
+/// A seat with what it shares and with what is called at its gates.
 #[derive(Drop)]
 pub struct Live<'a, G: Gate> {
     pub seat: &'a mut Seat,

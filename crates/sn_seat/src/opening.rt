@@ -151,7 +151,7 @@ impl Seat {
         &self.counters
     }
 
-    /// The seat at work, over what it shares, with a gate before each step.
+    /// The seat at work, over what it shares, with what is called at its gates.
     pub fn live<'a, G: Gate>(&'a mut self, shared: &'a Shared, gate: &'a G) -> Live<'a, G>
         requires fits { Fits self.now shared.now }
         ensures lent { result.seat.ghost_name ≡ self.entry.ghost_name }

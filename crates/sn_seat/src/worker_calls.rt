@@ -28,7 +28,7 @@ impl Seat {
     ghost use Rattle.sn_app.specs.Desk.{after_entry, name_of};
     ghost use Rattle.sn_app.specs.Rows.{row_give, row_hear};
     ghost use Rattle.sn_app.specs.World.{packet_at};
-    ghost use Rattle.sn_channel.specs.Ends.{IsSaid, last_said};
+    ghost use Rattle.sn_channel.specs.Ends.{IsRising, IsSaid, last_said};
     ghost use Rattle.sn_seat.specs.GiveSteps.{gave_entry, given_answer, is_worn_gave, used_after};
     ghost use Rattle.sn_seat.specs.Fitting.{met_again};
     ghost use Rattle.sn_seat.specs.declared.gave.Gave.TheVariants.{Worn};
@@ -205,6 +205,7 @@ impl Seat {
             → All (IsSaid speaker.old.said) (of_channel (seat_tray captures self.old).log.past) }
         ensures most { (captures : List (List ℕ))
             → All (λ n. n ≤ last_said speaker.old.said) (of_channel (seat_tray captures self.old).log.past) }
+        ensures rises { (captures : List (List ℕ)) → IsRising (of_channel (seat_tray captures self.old).log.past) }
         ensures tray { (captures : List (List ℕ)) → seat_tray captures self.new ≡ seat_tray captures self.old }
         ensures used { seat_used self.new ≡ seat_used self.old }
         ensures speaker { speaker.new ≡ speaker.old }

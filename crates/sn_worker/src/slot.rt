@@ -2,7 +2,7 @@
 ghost use Rattle.std.specs.Prelude.{◌≡◌, ℕ, All, [], false, if◌then◌else◌, IfOk, List, OnOk, Some, slice_get};
 ghost use Rattle.sn_actions.specs.PlainForms.{empty_form};
 ghost use Rattle.sn_app.specs.World.{desk_of, world};
-ghost use Rattle.sn_channel.specs.Ends.{IsSaid, last_said};
+ghost use Rattle.sn_channel.specs.Ends.{IsRising, IsSaid, last_said};
 ghost use Rattle.sn_seat.specs.Fitting.{met_again};
 ghost use Rattle.sn_seat.specs.Told.{of_channel};
 ghost use Rattle.sn_seat.specs.Trays.{captures_of};
@@ -87,6 +87,7 @@ impl Slot {
         requires speaker { slice_get shared.now.channels.items (slot_bond self.old).worker ≡ Some speaker.old.channel }
         ensures among { (captures : List (List ℕ))
             → All (IsSaid speaker.old.said) (of_channel (slot_tray captures self.old).log.past) }
+        ensures rises { (captures : List (List ℕ)) → IsRising (of_channel (slot_tray captures self.old).log.past) }
         ensures bond { slot_bond self.new ≡ met_again (last_said speaker.old.said) (slot_bond self.old) }
         ensures tray { (captures : List (List ℕ)) → slot_tray captures self.new ≡ slot_tray captures self.old }
         ensures used { slot_used self.new ≡ slot_used self.old }

@@ -23,7 +23,7 @@ returns-clause-after c =
       slot = met c.args.scenario.now c.args.shared.now c.args.rounds c.args.worker c.args.place.now.slot c.meet.new.self
           c.speaker-speaker.result.now.said c.requires.unmet.slot
           (c.requires.said.said c.args.worker c.speaker-speaker.result.now c.speaker-speaker.ensures.value) e.bond e.tray
-          e.used e.same e.fits (e.among (captures_of c.args.shared.now));
+          e.used e.same e.fits (e.among (captures_of c.args.shared.now)) (e.rises (captures_of c.args.shared.now));
       lacks_none = c.requires.unmet.lacks_none;
     }
 
