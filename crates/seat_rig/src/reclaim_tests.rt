@@ -96,10 +96,13 @@ fn what_two_seats_hold_goes_back(rt: HostRuntime) -> Result<(), Fail> {
         Entry::Room(0, 1023),
         Entry::Put(0, 0, 2, 1, Payload::of(Vec::new(alloc))),
         Entry::Detach(0, 5),
-        Entry::Gave(0, 1),
-        Entry::Gave(1, 1),
-        Entry::Reclaimed,
     ];
-    assert_eq!(rt; first.journal().entries(), given.as_slice());
+    let entries = first.journal().entries();
+    assert_eq!(rt; entries.get(..8).unwrap_or(&[]), given.as_slice());
+    // The order in which packets go back is open.
+    let behind = entries.get(8..).unwrap_or(&[]);
+    let rising = [Entry::Gave(0, 1), Entry::Gave(1, 1), Entry::Reclaimed];
+    let falling = [Entry::Gave(1, 1), Entry::Gave(0, 1), Entry::Reclaimed];
+    assert!(rt; behind == rising.as_slice() || behind == falling.as_slice());
     Ok(())
 }

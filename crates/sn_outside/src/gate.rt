@@ -1,4 +1,4 @@
-//! A gate before each step that two workers can both see.
+//! A gate before steps that two workers can both see.
 
 /// What is called before each such step.
 ///

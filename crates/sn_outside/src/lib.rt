@@ -1,4 +1,4 @@
-//! What the program reaches beyond itself: files, a sink for its text, and a gate before each step.
+//! What the program reaches beyond itself: files, a sink for its text, and a gate before steps of workers.
 //!
 //! * `files`: the trait [`Files`], and the list of calls that one may tell
 //! * `sink`: the trait [`Sink`]

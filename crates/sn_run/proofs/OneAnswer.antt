@@ -61,7 +61,7 @@ module _ (tells : Bool) (t : tells ≡ true) where
       said_led (opens name bytes next) old.contents said _ h.2.says (inr (inr (h.0, h.1, refl)))
   led (opens name bytes next) old new report said (inr (inr st)) =
       said_led (opens name bytes next) old.contents said starving st.says (inl tt)
-  led (runs form captures) old new report said (inl (ran, told, run, inl f)) = inr (ran, told, run, f.says)
+  led (runs form captures) old new report said (inl (ran, told, run, inl f)) = inr (ran, f.says)
   led (runs form captures) old new report said (inl (ran, told, run, inr u)) =
       unwritten_led (runs form captures) old.contents u.fault u.file.name told report said u.says
   led (runs form captures) old new report said (inr st) =
@@ -102,4 +102,4 @@ module _ (one_fault : (bytes : List ℕ) (a b : PcapFault) → HasFault bytes a 
   one_lead (opens name bytes next) m a b (inr x) (inl y) = absurd (no_fault bytes y.0.records x.0 y.0.text x.1)
   one_lead (opens name bytes next) m a b (inr x) (inr y) =
       inl (x.2 ∙ ap (λ f. said_of (refused (no_capture name f))) (one_fault bytes x.0 y.0 x.1 y.1) ∙ sym y.2)
-  one_lead (runs form captures) m a b x y = ended_alike a b x.0 y.0 x.3 y.3
+  one_lead (runs form captures) m a b x y = ended_alike a b x.0 y.0 x.1 y.1

@@ -7,8 +7,6 @@ use Rattle.sn_pcap.specs.declared.fault.PcapFault.{PcapFault}
 use Rattle.sn_pcap.specs.Faults.{HasFault}
 use Rattle.sn_run.specs.Captures.{IsCapture}
 use Rattle.sn_run.specs.Commands.{IsCommand, IsCommandOf}
-use Rattle.sn_run.specs.Replay.{IsRun}
-use Rattle.sn_run.specs.Reported.{RunReport}
 use Rattle.sn_run.specs.Scripts.{Script, prints, refuses, reads, opens, runs, command_script}
 use Rattle.sn_run.specs.Seen.{Holds, IsOver}
 use Rattle.sn_run.specs.Texts.{Said, said_of}
@@ -16,7 +14,7 @@ use Rattle.sn_run.specs.Ways.{Way, no_words, unread, refused, finished, done, un
 use Rattle.sn_run.specs.declared.command.Command.{Command}
 use Rattle.sn_run.specs.declared.outcome.Outcome.{Outcome}
 
--- the contents lead the script to this
+-- the contents lead the script to this; a run may end in any way, and its report says in which (Headline)
 unfoldable pub Leads : Script → Contents → Said → Type 0
 Leads (prints text) m said = said ≡ record { way = done; text = text }
 Leads (refuses why) m said = said ≡ said_of (refused why)
@@ -26,8 +24,7 @@ Leads (reads name limit next) m said =
 Leads (opens name bytes next) m said =
     (IsCapture bytes × Leads next m said)
     ⊎ ((fault : PcapFault) × HasFault bytes fault × (said ≡ said_of (refused (no_capture name fault))))
-Leads (runs form captures) m said =
-    (ran : Outcome) × (told : RunReport) × IsRun form captures ran told × (said ≡ said_of (finished ran))
+Leads (runs form captures) m said = (ran : Outcome) × (said ≡ said_of (finished ran))
 
 -- the words are a command, whose script the contents lead to this
 pub record CommandLeads (m : Contents) (words : List (List ℕ)) (said : Said) : Type 0 where

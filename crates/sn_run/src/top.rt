@@ -135,8 +135,9 @@ fn answer_words<R: Threads + Sync, F: Files, O: Sink, G: Gate>(
 /// read first, and of a run its captures then; then its files are written, and last the text is
 /// printed.
 ///
-/// The work of each round is done in threads; where one can't be started, the caller does its work. The gate is called before
-/// each step of a worker that others can see. No clause says, but holds: no memory is taken from the first write on.
+/// The work of each round is done in threads; where one can't be started, the caller does its work. The gate is called in the
+/// rounds, before each step on what workers share but those that go on with what another began, and not while workers are
+/// closed. No clause says, but holds: no memory is taken from the first write on.
 pub fn snabb_main<R: Threads + Sync, F: Files, O: Sink, G: Gate>(
     rt: &R,
     alloc: Global,

@@ -1,5 +1,5 @@
 //! Scenarios of several workers: in threads, where nothing that is compared depends on how they meet, and in order.
-use crate::commands::{capture, files_of, run_with};
+use crate::commands::{capture, files_of, run, run_with};
 use crate::runs::{DRAINED, Want, expect_held, expect_run};
 use sn_journal::Entry;
 use sn_outside::{Gate, NoGate};
@@ -138,6 +138,53 @@ fn four_workers_work_together(rt: HostRuntime) -> Result<(), Fail> {
             .iter()
             .all(|came| came.load(Ordering::SeqCst) != 0)
     );
+    // The last gate of workers 2 and 3 is the one before they hear in the last breath: each later round held them.
+    assert_eq!(rt; gate.came[2].load(Ordering::SeqCst), 65);
+    assert_eq!(rt; gate.came[3].load(Ordering::SeqCst), 65);
+    expect_held(&rt, &files, "out.pcap", Some(&input))
+}
+
+/// A capture that goes over 16 interlinks from one of 16 workers to the next, and round to worker 0, which writes it.
+fn ring_of_16(alloc: Global) -> Result<String, AllocError> {
+    let mut text = String::from_str(alloc, "scenario 1\nworkers 16\nbreaths 4\nrounds 20\n")?;
+    for worker in 0..16 {
+        let next = (worker + 1) % 16;
+        text.push_str(&format!(in alloc; "interlink x{worker} {worker} {next}\n")?)?;
+    }
+    text.push_str(RING_ENDS)?;
+    for before in 0..15 {
+        let worker = before + 1;
+        text.push_str(&format!(in alloc;
+            "config {worker} 0\napp v Receiver x{before}\napp t Transmitter x{worker}\nlink v.output -> t.input\nend\n"
+        )?)?;
+    }
+    Ok(text)
+}
+
+/// What worker 0 of the ring does.
+const RING_ENDS: &str =
+    "config 0 0\napp r PcapReader in.pcap\napp t Transmitter x0\nlink r.output -> t.input\napp v Receiver x15\napp w PcapWriter out.pcap\nlink v.output -> w.input\nend\n";
+
+#[test]
+fn sixteen_workers_pass_a_capture_on_over_16_interlinks(rt: HostRuntime) -> Result<(), Fail> {
+    let words = ring_of_16(rt.alloc())?;
+    let input = capture(rt.alloc(), &[60; 100])?;
+    let mut files = files_of(
+        rt.alloc(),
+        "s",
+        words.as_str().as_bytes(),
+        Some(&input),
+        &[],
+    )?;
+    let report = expect_run(&rt, &mut files, DRAINED)?;
+    assert_eq!(rt; report.journals.len(), 16);
+    assert_eq!(rt; report.lanes.len(), 16);
+    assert!(rt;
+        report
+            .lanes
+            .iter()
+            .all(|lane| lane.put == 100 && lane.taken == 100)
+    );
     expect_held(&rt, &files, "out.pcap", Some(&input))
 }
 
@@ -217,11 +264,15 @@ fn first_full(report: &Report) -> Option<usize> {
 #[test]
 fn the_first_full_journal_ends_the_run_and_nothing_is_kept(rt: HostRuntime) -> Result<(), Fail> {
     let mut files = files_of(rt.alloc(), "s", LONG_PACKETS.as_bytes(), None, &[])?;
-    let Ended { status, report, .. } = run_with(&rt, &mut files, &NoGate)?;
+    let (ended, out) = run(&rt, &mut files)?;
+    let Ended { status, report, .. } = ended;
+    assert_eq!(rt; status.number(), 4);
     match (status, report) {
         (Status::JournalLimit(worker), Some(report)) => {
             assert_eq!(rt; first_full(&report), Some(worker as usize));
             assert_eq!(rt; report.kept.len(), 0);
+            let text = format!(in rt.alloc(); "status journal-limit {worker}\n")?;
+            assert_eq!(rt; out.taken(), text.as_str().as_bytes());
             Ok(())
         }
         _ => Err("no journal was full")?,
@@ -232,8 +283,8 @@ fn the_first_full_journal_ends_the_run_and_nothing_is_kept(rt: HostRuntime) -> R
 const MOVED: &str =
     "scenario 1\nbreaths 3\nrounds 2\nconfig 0 0\napp r PcapReader in.pcap\napp w PcapWriter a.pcap\nlink r.output -> w.input\nend\nconfig 0 2\napp r PcapReader in.pcap\napp w PcapWriter b.pcap\nlink r.output -> w.input\nend\n";
 
-/// How a scenario of two rounds runs in order over a capture. None where it has not two rounds or not one capture, where a journal
-/// is full, or where memory lacked.
+/// How a scenario of two rounds runs in order over a capture. None where it has not two rounds or not one capture, where a
+/// journal is full, or where memory lacked.
 fn in_order(alloc: Global, text: &[u8], bytes: Vec<u8>) -> Option<(Outcome, Report)> {
     if text.len() > 1_048_576 {
         return None;
@@ -290,9 +341,25 @@ fn two_packets(alloc: Global) -> Result<String, AllocError> {
     format!(in alloc; "scenario 1\nworkers 2\npool 2\nbreaths 2\nrounds 2\n{SENDER}{RECEIVER}")
 }
 
-/// The journals of the two workers, in order: worker 0 puts both packets before worker 1 looks. Worker 0 is closed first.
+/// The journals of the two workers, in order, up to the last packets that go back: worker 0 puts both packets before worker 1
+/// looks. Worker 0 is closed first.
 const JOURNALS: &str =
-    "round 1\nhear 6\nbreath\nhear 6\nbreath\ngot 0 0\ngot 1 0\ndry\nattach 0 0\nroom 0 1023\nput 0 0 1 1 60\nput 0 1 0 1 60\nround 2\nhear 6\nbreath\nhear 6\nbreath\nclose\ndetach 0 5\nreclaimed\nround 1\nhear 6\nbreath\nhear 6\nbreath\nattach 0 4\nseen 0 2\ntake 0 0 1 1 60\ntake 0 1 0 1 60\nround 2\nhear 6\nbreath\nseen 0 0\nhear 6\nbreath\nseen 0 0\nclose\ndetach 0 9\nseen 0 0\nreset 0\ngave 1 2\ngave 0 2\nreclaimed\n";
+    "round 1\nhear 6\nbreath\nhear 6\nbreath\ngot 0 0\ngot 1 0\ndry\nattach 0 0\nroom 0 1023\nput 0 0 1 1 60\nput 0 1 0 1 60\nround 2\nhear 6\nbreath\nhear 6\nbreath\nclose\ndetach 0 5\nreclaimed\nround 1\nhear 6\nbreath\nhear 6\nbreath\nattach 0 4\nseen 0 2\ntake 0 0 1 1 60\ntake 0 1 0 1 60\nround 2\nhear 6\nbreath\nseen 0 0\nhear 6\nbreath\nseen 0 0\nclose\ndetach 0 9\nseen 0 0\nreset 0\n";
+
+/// What follows: the order in which packets go back is open.
+const GIVEN: [&str; 2] = [
+    "gave 1 2\ngave 0 2\nreclaimed\n",
+    "gave 0 2\ngave 1 2\nreclaimed\n",
+];
+
+/// Whether a text is that of these journals.
+fn are_journals(text: &[u8]) -> bool {
+    let front = JOURNALS.as_bytes();
+    let Some(behind) = text.get(front.len()..) else {
+        return false;
+    };
+    text.starts_with(front) && GIVEN.iter().any(|given| behind == given.as_bytes())
+}
 
 /// The text of all journals, one behind the other.
 fn journals_of(alloc: Global, report: &Report) -> Result<Vec<u8>, AllocError> {
@@ -304,14 +371,13 @@ fn journals_of(alloc: Global, report: &Report) -> Result<Vec<u8>, AllocError> {
 }
 
 #[test]
-fn two_workers_in_order_make_the_same_journals_each_time(rt: HostRuntime) -> Result<(), Fail> {
+fn two_workers_in_order_make_these_journals(rt: HostRuntime) -> Result<(), Fail> {
     let alloc = rt.alloc();
     let words = two_packets(alloc)?;
     match in_order(alloc, words.as_str().as_bytes(), capture(alloc, &[60; 2])?) {
         Some((outcome, report)) => {
             assert_eq!(rt; outcome, Outcome::Drained);
-            let text = journals_of(alloc, &report)?;
-            assert_eq!(rt; text.as_slice(), JOURNALS.as_bytes());
+            assert!(rt; are_journals(&journals_of(alloc, &report)?));
             Ok(())
         }
         None => Err("it did not run")?,
